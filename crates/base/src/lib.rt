@@ -1,0 +1,3 @@
+//! What everything else stands on: refusals by number, place and layer, and sets of job numbers.
+
+pub mod fault;
