@@ -1,5 +1,6 @@
 //! Refusals. A call that refuses says which question was answered no, and where.
 ghost use mathlib.Core.Path.{_≡_};
+ghost use Rattle.std.specs.Orderings.{Decides};
 ghost use Rattle.base.specs.Refusal.{said};
 
 /// The layer of the library that a question belongs to.
@@ -13,7 +14,7 @@ pub enum Layer {
 }
 
 /// A refusal: a case for each question, named by what is wrong, with its place.
-#[derive(Clone, Copy, PartialEq, Eq, Debug)]
+#[derive(Clone, Copy, Debug)]
 pub enum Fault {
     /// The field that begins at this bit is not there whole.
     FieldCut { bit: u32 },
@@ -133,3 +134,14 @@ impl Fault {
         }
     }
 }
+
+/// Two refusals are equal where their numbers and their places are.
+pub impl PartialEq<Fault> for Fault as FaultPartialEq {
+    ghost equals = { λ f g r. Decides r (f ≡ g) };
+
+    fn eq(&self, other: &Fault) -> bool {
+        self.number() == other.number() && self.place() == other.place()
+    }
+}
+
+pub impl Eq for Fault as FaultEq {}
