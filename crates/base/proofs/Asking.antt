@@ -43,3 +43,12 @@ one-failed (x ∷ xs) ys s e = go (x .holds) e (one-failed xs ys s)
         → cond b (first-no (xs ++ ys)) (Some (x .otherwise)) ≡ Some s
     go true e rec = rec e
     go false e rec = e
+
+-- where all questions hold, the first does
+pub held : (q : Question) (qs : List Question) → first-no (q ∷ qs) ≡ None → q .holds ≡ true
+unfolding first-no
+held q qs e = go (q .holds) e
+  where
+    go : (b : Bool) → cond b (first-no qs) (Some (q .otherwise)) ≡ None → b ≡ true
+    go true e = refl
+    go false e = let z : _≡_ {A = ℕ} 0 1 = cc in absurd (omega arith)
