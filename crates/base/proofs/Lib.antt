@@ -1,1 +1,4 @@
 pub mod Asking
+pub mod Digits
+pub mod Members
+pub mod MembersRoad
