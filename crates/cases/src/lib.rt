@@ -1,7 +1,12 @@
 //! Worked examples, proved from the definitions, and tests.
 
+pub mod worked;
+
 #[cfg(test)]
 mod answers;
 #[cfg(test)]
+mod faults;
+#[cfg(test)]
 mod fields;
-pub mod worked;
+#[cfg(test)]
+mod sets;
