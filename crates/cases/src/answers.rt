@@ -35,7 +35,23 @@ fn says(card: &[u8], line: &str) -> Result<(), Fail> {
 #[test]
 fn graph_a() -> Result<(), Fail> {
     says(
-        &[0x10, 0xC2, 0x00, 0x09, 0x00, 0x20, 0x0B, 0x00, 0x90, 0x03, 0x80, 0x19, 0x80, 0x08, 0xC0],
+        &[
+            0x10,
+            0xC2,
+            0x00,
+            0x09,
+            0x00,
+            0x20,
+            0x0B,
+            0x00,
+            0x90,
+            0x03,
+            0x80,
+            0x19,
+            0x80,
+            0x08,
+            0xC0,
+        ],
         "plan 6 jobs 2 crews\n",
     )
 }
@@ -92,8 +108,14 @@ fn the_first_fault_speaks() -> Result<(), Fail> {
 fn a_target_too_short() -> Result<(), Fail> {
     let card = head(1, 6, 2, 18);
     let mut text = [7; 19];
-    check_eq(answer_card(&card, &mut text).err(), Some(Fault::TargetShort { needed: 20 }))?;
+    check_eq(
+        answer_card(&card, &mut text).err(),
+        Some(Fault::TargetShort { needed: 20 }),
+    )?;
     check(text == [7; 19])?;
-    check_eq(answer_card(&[], &mut text[0..11]).err(), Some(Fault::TargetShort { needed: 12 }))?;
+    check_eq(
+        answer_card(&[], &mut text[0..11]).err(),
+        Some(Fault::TargetShort { needed: 12 }),
+    )?;
     check(text == [7; 19])
 }

@@ -36,7 +36,12 @@ fn numbers_places_layers_of_orders_and_runs() -> Result<(), Fail> {
     says(Fault::RowsShort { jobs: 64 }, 14, 64, Layer::Run)?;
     says(Fault::SlipsShort { places: 16 }, 15, 16, Layer::Run)?;
     says(Fault::RunOpen { run: 7 }, 16, 7, Layer::Run)?;
-    says(Fault::NumbersSpent { next: u32::MAX }, 17, u32::MAX, Layer::Run)?;
+    says(
+        Fault::NumbersSpent { next: u32::MAX },
+        17,
+        u32::MAX,
+        Layer::Run,
+    )?;
     says(Fault::NoSuchRun { ticket: 8 }, 18, 8, Layer::Run)?;
     says(Fault::NoSuchGrant { grant: 9 }, 19, 9, Layer::Run)?;
     says(Fault::BeforeClock { clock: 12 }, 20, 12, Layer::Run)?;
@@ -55,7 +60,10 @@ fn equal_refusals() -> Result<(), Fail> {
 fn the_longest_line() -> Result<(), Fail> {
     let fault = Fault::NumbersSpent { next: u32::MAX };
     let mut text = [7; 22];
-    check_eq(write_refusal(fault, &mut text[0..21]).err(), Some(Fault::TargetShort { needed: 22 }))?;
+    check_eq(
+        write_refusal(fault, &mut text[0..21]).err(),
+        Some(Fault::TargetShort { needed: 22 }),
+    )?;
     check(text == [7; 22])?;
     check_eq(write_refusal(fault, &mut text).ok(), Some(22))?;
     check(&text[0..22] == b"refused 17 4294967295\n")

@@ -15,7 +15,10 @@ fn reads() -> Result<(), Fail> {
     check_eq(read_u8(&bytes, 4, Width { bits: 7 }), Some(6))?;
     check_eq(read_u8(&bytes, 11, Width { bits: 5 }), Some(2))?;
     check_eq(read_u32(&bytes, 16, Width { bits: 17 }), Some(18))?;
-    check_eq(read_u64(&bytes, 0, Width { bits: 40 }), Some(0x10_C200_0900))?;
+    check_eq(
+        read_u64(&bytes, 0, Width { bits: 40 }),
+        Some(0x10_C200_0900),
+    )?;
     check_eq(read_u64(&bytes, 0, Width { bits: 41 }), None)?;
     check_eq(read_u8(&bytes, 39, Width { bits: 1 }), Some(0))?;
     check_eq(read_u8(&bytes, 40, Width { bits: 1 }), None)?;

@@ -1,7 +1,5 @@
 //! Worked examples, proved from the definitions, and tests.
 
-pub mod worked;
-
 #[cfg(test)]
 mod answers;
 #[cfg(test)]
@@ -10,3 +8,4 @@ mod faults;
 mod fields;
 #[cfg(test)]
 mod sets;
+pub mod worked;
