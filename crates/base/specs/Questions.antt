@@ -18,6 +18,7 @@ pub record Question : Type 0 where
   pub holds : Bool
   pub otherwise : Said
 
+-- A question, by its two parts.
 abbrev pub ask : Bool → Said → Question
 ask test words = record { holds = test; otherwise = words }
 

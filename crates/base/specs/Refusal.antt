@@ -11,6 +11,7 @@ pub record Said : Type 0 where
   pub place : ℕ
   pub layer : Layer
 
+-- The number, the place and the layer, together.
 abbrev pub says : ℕ → ℕ → Layer → Said
 says n p l = record { number = n; place = p; layer = l }
 

@@ -18,9 +18,10 @@ unfoldable pub number : List ℕ → ℕ
 number [] = 0
 number (b ∷ bs) = b * 2 ^ length bs + number bs
 
--- The w bits from bit p on, and their number.
+-- The w bits from bit p on.
 abbrev pub cut : List ℕ → ℕ → ℕ → List ℕ
 cut us p w = take w (drop p us)
 
+-- The number that the w bits from bit p on write.
 unfoldable pub value-at : List ℕ → ℕ → ℕ → ℕ
 value-at us p w = number (cut us p w)

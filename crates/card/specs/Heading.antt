@@ -19,6 +19,7 @@ question Jobs = 3
 question Crews = 4
 question Layover = 5
 
+-- Does x lie from `least` to `most`?
 abbrev pub within : ℕ → ℕ → ℕ → Bool
 within least x most = leb least x && leb x most
 

@@ -21,6 +21,7 @@ worded us None = first-line (value-at us 4 7) (value-at us 11 5)
 unfoldable pub answer-text : List ℕ → List ℕ
 answer-text us = worded us (first-no (heading us))
 
+-- Nothing was answered no.
 abbrev pub nothing : Option Said → Bool
 nothing (Some no-to) = false
 nothing None = true

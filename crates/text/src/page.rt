@@ -3,9 +3,9 @@ ghost use Prim.Native.Nat.{_≤_};
 
 mod writing;
 
-/// A text of at most 2,048 bytes, put together piece by piece.
+// A text of at most 2,048 bytes, put together piece by piece.
 #[derive(Drop)]
-pub struct Page {
+pub(crate) struct Page {
     bytes: [u8; 2048],
     used: usize,
     ghost within: { used ≤ 2048 },

@@ -5,8 +5,8 @@ ghost use Rattle.text.specs.Texts.{shown};
 use super::Decimal;
 
 impl Decimal {
-    /// The digits of a number.
-    pub fn new(n: u32) -> Decimal
+    // The digits of a number.
+    pub(crate) fn new(n: u32) -> Decimal
         ensures { λ r. ⌜ shown r ≡ decimal n ⌝ }
     {
         let mut digits = [0; 10];
@@ -21,8 +21,8 @@ impl Decimal {
         Decimal { digits, start }
     }
 
-    /// The digits, most significant first, as ASCII.
-    pub fn as_bytes(&self) -> &[u8]
+    // The digits, most significant first, as ASCII.
+    pub(crate) fn as_bytes(&self) -> &[u8]
         ensures { λ r. ⌜ now r ≡ shown (now (self .entry)) ⌝ }
     {
         self.digits.split_at(self.start).1

@@ -12,8 +12,8 @@ use base::fault::Fault;
 use bits::tail::holds;
 
 impl Page {
-    /// A page with no text.
-    pub fn new() -> Page
+    // A page with no text.
+    pub(crate) fn new() -> Page
         ensures text { λ r. ⌜ text r ≡ [] ⌝ }
         ensures used { λ r. ⌜ r .used ≡ 0 ⌝ }
     {
@@ -44,9 +44,9 @@ impl Page {
         self.push(number.as_bytes());
     }
 
-    /// Writes the text to the front of `target`, and answers how many bytes that is.
-    /// A target that is too short is refused, and is left as it was.
-    pub fn write_to(&self, target: &mut [u8]) -> Result<usize, Fault>
+    // Writes the text to the front of `target`, and answers how many bytes that is.
+    // A target that is too short is refused, and is left as it was.
+    pub(crate) fn write_to(&self, target: &mut [u8]) -> Result<usize, Fault>
         ensures { λ r. ⌜ Writes (text (now (self .entry))) (now (target .entry)) (now (target .exit)) r ⌝ }
     {
         self.ask_room(target)?;
