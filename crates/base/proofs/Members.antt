@@ -15,7 +15,7 @@ use Rattle.std.proofs.shelf.Bits.{mod-pow-add, mod-below, pow-pos}
 use Rattle.std.proofs.shelf.Lists.{length-append, getD-append-left, getD-push}
 use Rattle.std.proofs.shelf.Tests.{cases-lt, both-ways, eq-eqb, ne-eqb}
 use Rattle.std.proofs.shelf.Ways.{tells}
-use Rattle.base.specs.JobSets.{has, members-below, members, size, Bare}
+use Rattle.base.specs.JobSets.{has, members-below, members, size, Empty}
 use Rattle.base.proofs.Digits.{digit, has-zero, has-past, has-next, has-pow}
 
 and-true : (d : Bool) → (d && not false) ≡ d
@@ -37,7 +37,7 @@ same-digits (suc n) a b h =
 pub same-members : (a b : ℕ) → a < 2 ^ 64 → b < 2 ^ 64 → ((u : ℕ) → u < 64 → has a u ≡ has b u) → a ≡ b
 same-members a b p q h = sym (mod-eq-of-lt p) ∙ same-digits 64 a b h ∙ mod-eq-of-lt q
 
-pub bare-is-zero : (s : ℕ) → s < 2 ^ 64 → Bare s → s ≡ 0
+pub bare-is-zero : (s : ℕ) → s < 2 ^ 64 → Empty s → s ≡ 0
 bare-is-zero s p h = same-members s 0 p (omega arith) (λ u l. h u ∙ sym (has-zero u))
 
 -- ---- the list
@@ -201,7 +201,7 @@ trailing-has (suc n) s l = go (has s 0) refl (λ g. trailing-has n (s / 2) g)
         let z : trailingZeros (suc n) s ≡ suc (trailingZeros n (s / 2)) = trailing-more n s ∙ rw e in
         rw (z, has-next) (i (omega arith))
 
-pub trailing-within : (s : ℕ) → s < 2 ^ 64 → (Bare s → ⊥) → trailingZeros 64 s ≤ 63
+pub trailing-within : (s : ℕ) → s < 2 ^ 64 → (Empty s → ⊥) → trailingZeros 64 s ≤ 63
 trailing-within s p n = elim (cases-lt (trailingZeros 64 s) 64) [
   | inl l ↦ omega arith
   | inr g ↦ absurd (n (λ u. elim (cases-lt u 64) [ inl l ↦ trailing-bare 64 s u (omega arith) | inr h ↦ has-past s u 64 p h ]))

@@ -27,16 +27,16 @@ abbrev pub size : ℕ → ℕ
 size s = length (members s)
 
 -- There is no member.
-abbrev pub Bare : ℕ → Type 0
-Bare s = (u : ℕ) → has s u ≡ false
+abbrev pub Empty : ℕ → Type 0
+Empty s = (u : ℕ) → has s u ≡ false
 
 -- Every member of a is one of b.
-abbrev pub Part : ℕ → ℕ → Type 0
-Part a b = (u : ℕ) → has a u ≡ true → has b u ≡ true
+abbrev pub Subset : ℕ → ℕ → Type 0
+Subset a b = (u : ℕ) → has a u ≡ true → has b u ≡ true
 
 -- No member of a is one of b.
-abbrev pub Apart : ℕ → ℕ → Type 0
-Apart a b = (u : ℕ) → has a u ≡ true → has b u ≡ false
+abbrev pub Disjoint : ℕ → ℕ → Type 0
+Disjoint a b = (u : ℕ) → has a u ≡ true → has b u ≡ false
 
 -- v is the lowest member.
 pub record Lowest (s v : ℕ) : Type 0 where
@@ -44,13 +44,17 @@ pub record Lowest (s v : ℕ) : Type 0 where
   pub member : has s v ≡ true
   pub first : (u : ℕ) → u < v → has s u ≡ false
 
+-- The lowest member is taken out, if there is one: `before` and `after` are the sets then and now.
+abbrev pub Takes-lowest : ℕ → Option ℕ → ℕ → Type 0
+Takes-lowest before r after = Cases r ((members before ≡ []) × (after ≡ before)) (λ v. members before ≡ v ∷ members after)
+
 -- The members that an iterator has yet to give.
 abbrev pub to-come : Members → List ℕ
 to-come it = members (it .left .bits)
 
 -- One call of an iterator over the members: the next member, or none and the iterator as it was.
 abbrev pub Gives-next : Members → Option ℕ → Members → Type 0
-Gives-next it r after = Cases r ((to-come it ≡ []) × (after ≡ it)) (λ v. to-come it ≡ v ∷ to-come after)
+Gives-next it r after = Takes-lowest (it .left .bits) r (after .left .bits)
 
 -- Two sets with the same members are the same number.
 abbrev pub Same-members : Type 0
@@ -73,9 +77,9 @@ abbrev pub Size-within : Type 0
 Size-within = (s : ℕ) → size s ≤ 64
 
 -- A part of a set has no more members than the set.
-abbrev pub Part-size : Type 0
-Part-size = (a b : ℕ) → Part a b → size a ≤ size b
+abbrev pub Subset-size : Type 0
+Subset-size = (a b : ℕ) → Subset a b → size a ≤ size b
 
 -- A set whose members are those of two sets that are apart has as many as both together.
 abbrev pub Union-size : Type 0
-Union-size = (a b c : ℕ) → Apart a b → ((u : ℕ) → has c u ≡ (has a u || has b u)) → size c ≡ size a + size b
+Union-size = (a b c : ℕ) → Disjoint a b → ((u : ℕ) → has c u ≡ (has a u || has b u)) → size c ≡ size a + size b

@@ -1,4 +1,5 @@
 -- What each refusal says: number, place and layer.
+use mathlib.Core.Path.{_≡_}
 use Prim.Native.Nat.{ℕ}
 use Rattle.base.specs.declared.fault.Layer.{Layer}
 use Rattle.base.specs.declared.fault.Layer.the-variants.{Bits, Card, Graph, Order, Run}
@@ -39,3 +40,7 @@ said (NoSuchGrant grant) = says 19 grant Run
 said (BeforeClock clock) = says 20 clock Run
 said (Overdue due) = says 21 due Run
 said (PassesOther job) = says 22 job Run
+
+-- A refusal is known by its number and its place.
+abbrev pub Known-by-number-and-place : Type 0
+Known-by-number-and-place = (f g : Fault) → said f .number ≡ said g .number → said f .place ≡ said g .place → f ≡ g

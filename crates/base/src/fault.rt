@@ -1,15 +1,20 @@
 //! Refusals. A call that refuses says which question was answered no, and where.
 ghost use mathlib.Core.Path.{_≡_};
 ghost use Rattle.std.specs.Orderings.{Decides};
-ghost use Rattle.base.specs.Refusal.{said};
+ghost use Rattle.base.specs.Refusal.{said, Known-by-number-and-place};
 
 /// The layer of the library that a question belongs to.
 #[derive(Clone, Copy, PartialEq, Eq, Debug)]
 pub enum Layer {
+    /// Fields and bytes.
     Bits,
+    /// The head of a work card.
     Card,
+    /// The work graph, and the bound of its work.
     Graph,
+    /// Orders by which work is chosen.
     Order,
+    /// Runs and plans.
     Run,
 }
 
@@ -135,7 +140,7 @@ impl Fault {
     }
 }
 
-/// Two refusals are equal where their numbers and their places are.
+/// Equality of refusals, by number and place.
 pub impl PartialEq<Fault> for Fault as FaultPartialEq {
     ghost equals = { λ f g r. Decides r (f ≡ g) };
 
@@ -144,4 +149,12 @@ pub impl PartialEq<Fault> for Fault as FaultPartialEq {
     }
 }
 
+/// Equality of refusals is reflexive.
 pub impl Eq for Fault as FaultEq {}
+
+/// Carries the law that a refusal is known by its number and its place.
+pub fn fault_laws() -> u8
+    ensures { λ _. ⌜ Known-by-number-and-place ⌝ }
+{
+    0
+}

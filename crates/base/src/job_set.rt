@@ -7,7 +7,7 @@ ghost use lib.Dec.{eqb, ltb};
 ghost use lib.ListN.{length};
 ghost use Rattle.std.specs.Options.{Cases};
 ghost use Rattle.std.specs.Orderings.{Decides};
-ghost use Rattle.base.specs.JobSets.{has, members, size, Bare, Part, Apart, Lowest, to-come, Gives-next, Same-members, Ascending, Listed, Complete, Size-within, Part-size, Union-size};
+ghost use Rattle.base.specs.JobSets.{has, members, size, Empty, Subset, Disjoint, Lowest, Takes-lowest, to-come, Gives-next, Same-members, Ascending, Listed, Complete, Size-within, Subset-size, Union-size};
 
 /// A set of job numbers, 0 to 63. Numbers above 63 are members of nothing and change nothing.
 #[derive(Clone, Copy, PartialEq, Eq, Debug)]
@@ -18,7 +18,7 @@ pub struct JobSet {
 impl JobSet {
     /// The set with no member.
     pub fn empty() -> JobSet
-        ensures { λ r. ⌜ Bare (r .bits) ⌝ }
+        ensures { λ r. ⌜ Empty (r .bits) ⌝ }
     {
         JobSet { bits: 0 }
     }
@@ -71,7 +71,7 @@ impl JobSet {
     /// The members of either set.
     pub fn union(self, other: JobSet) -> JobSet
         ensures members { λ r. ⌜ ((u : ℕ) → has (r .bits) u ≡ (has (self .bits) u || has (other .bits) u)) ⌝ }
-        ensures adds { λ r. ⌜ (Apart (self .bits) (other .bits) → size (r .bits) ≡ size (self .bits) + size (other .bits)) ⌝ }
+        ensures adds { λ r. ⌜ (Disjoint (self .bits) (other .bits) → size (r .bits) ≡ size (self .bits) + size (other .bits)) ⌝ }
     {
         JobSet {
             bits: self.bits | other.bits,
@@ -99,14 +99,14 @@ impl JobSet {
     /// Whether there is no member.
     pub fn is_empty(self) -> bool
         ensures counted { λ r. ⌜ r ≡ eqb (size (self .bits)) 0 ⌝ }
-        ensures bare { λ r. ⌜ Decides r (Bare (self .bits)) ⌝ }
+        ensures bare { λ r. ⌜ Decides r (Empty (self .bits)) ⌝ }
     {
         self.bits == 0
     }
 
     /// Whether every member is a member of `other`.
     pub fn is_subset(self, other: JobSet) -> bool
-        ensures part { λ r. ⌜ Decides r (Part (self .bits) (other .bits)) ⌝ }
+        ensures part { λ r. ⌜ Decides r (Subset (self .bits) (other .bits)) ⌝ }
         ensures smaller { λ r. ⌜ (r ≡ true → size (self .bits) ≤ size (other .bits)) ⌝ }
     {
         self.difference(other).is_empty()
@@ -121,7 +121,7 @@ impl JobSet {
 
     /// The lowest member, if there is one.
     pub fn lowest(self) -> Option<u8>
-        ensures { λ r. ⌜ Cases r (Bare (self .bits)) (Lowest (self .bits)) ⌝ }
+        ensures { λ r. ⌜ Cases r (Empty (self .bits)) (Lowest (self .bits)) ⌝ }
     {
         if self.is_empty() {
             return None;
@@ -131,8 +131,8 @@ impl JobSet {
 
     /// Takes the lowest member out, if there is one, and answers it.
     pub fn take_lowest(&mut self) -> Option<u8>
-        ensures first { λ r. ⌜ Cases r ((members (now (self .entry) .bits) ≡ []) × (now (self .exit) ≡ now (self .entry))) (λ v. members (now (self .entry) .bits) ≡ v ∷ members (now (self .exit) .bits)) ⌝ }
-        ensures others { λ r. ⌜ Cases r (Bare (now (self .entry) .bits)) (λ v. (u : ℕ) → has (now (self .exit) .bits) u ≡ (has (now (self .entry) .bits) u && not (eqb u v))) ⌝ }
+        ensures first { λ r. ⌜ Takes-lowest (now (self .entry) .bits) r (now (self .exit) .bits) ⌝ }
+        ensures others { λ r. ⌜ Cases r (Empty (now (self .entry) .bits)) (λ v. (u : ℕ) → has (now (self .exit) .bits) u ≡ (has (now (self .entry) .bits) u && not (eqb u v))) ⌝ }
     {
         let job = self.lowest()?;
         let _ = self.remove(job);
@@ -153,6 +153,7 @@ pub struct Members {
     left: JobSet,
 }
 
+/// Gives the lowest member that is left.
 pub impl Iterator for Members as MembersIterator {
     type Item = u8;
 
@@ -174,7 +175,7 @@ pub fn set_laws() -> u8
     ensures listed { λ _. ⌜ Listed ⌝ }
     ensures complete { λ _. ⌜ Complete ⌝ }
     ensures sizes { λ _. ⌜ Size-within ⌝ }
-    ensures parts { λ _. ⌜ Part-size ⌝ }
+    ensures parts { λ _. ⌜ Subset-size ⌝ }
     ensures unions { λ _. ⌜ Union-size ⌝ }
 {
     0

@@ -34,22 +34,25 @@ impl Header {
     }
 
     /// How many jobs there are, 1 to 64.
-    pub fn jobs(&self) -> u8
-        ensures { λ r. ⌜ r ≡ now (self .entry) .jobs ⌝ }
+    pub fn jobs(self) -> u8
+        ensures value { λ r. ⌜ r ≡ self .jobs ⌝ }
+        ensures range { λ r. ⌜ (1 ≤ r) × (r ≤ 64) ⌝ }
     {
         self.jobs
     }
 
     /// How many crews there are, 1 to 16.
-    pub fn crews(&self) -> u8
-        ensures { λ r. ⌜ r ≡ now (self .entry) .crews ⌝ }
+    pub fn crews(self) -> u8
+        ensures value { λ r. ⌜ r ≡ self .crews ⌝ }
+        ensures range { λ r. ⌜ (1 ≤ r) × (r ≤ 16) ⌝ }
     {
         self.crews
     }
 
     /// How many minutes the train stands, 1 to 92,160.
-    pub fn layover(&self) -> u32
-        ensures { λ r. ⌜ r ≡ now (self .entry) .layover ⌝ }
+    pub fn layover(self) -> u32
+        ensures value { λ r. ⌜ r ≡ self .layover ⌝ }
+        ensures range { λ r. ⌜ (1 ≤ r) × (r ≤ 92160) ⌝ }
     {
         self.layover
     }

@@ -12,13 +12,12 @@ use Rattle.base.specs.declared.fault.Layer.the-variants.{Bits}
 use Rattle.base.specs.Refusal.{Said, says}
 use Rattle.base.specs.Questions.{ask, first-no, room, Taken, Refused}
 use Rattle.base.proofs.Asking.{held}
-use Rattle.bits.specs.Fields.{value-at}
-use Rattle.card.specs.Heading.{heading}
+use Rattle.card.specs.Heading.{jobs-of, crews-of, heading}
 use Rattle.text.specs.Lines.{refusal-line, first-line}
-use Rattle.planner.specs.Answering.{worded, answer-text, nothing, is-taken, Answered}
+use Rattle.planner.specs.Answering.{worded, answer-text, none-failed, is-taken, Answered}
 
 module _ (us : List ℕ) where
-  pub text-taken : (n m : ℕ) → first-no (heading us) ≡ None → n ≡ value-at us 4 7 → m ≡ value-at us 11 5 → first-line n m ≡ answer-text us
+  pub text-taken : (n m : ℕ) → first-no (heading us) ≡ None → n ≡ jobs-of us → m ≡ crews-of us → first-line n m ≡ answer-text us
   unfolding answer-text
   text-taken n m e jobs crews = rw (jobs, crews) (sym (ap (worded us) e))
 
@@ -28,11 +27,11 @@ module _ (us : List ℕ) where
 
   pub told-taken : first-no (heading us) ≡ None → true ≡ is-taken us
   unfolding is-taken
-  told-taken e = sym (ap nothing e)
+  told-taken e = sym (ap none-failed e)
 
   pub told-refused : (s : Said) → first-no (heading us) ≡ Some s → false ≡ is-taken us
   unfolding is-taken
-  told-refused s e = sym (ap nothing e)
+  told-refused s e = sym (ap none-failed e)
 
   -- a line that is the card's answer was written, or did not fit
   module _ (line old new : List ℕ) (same : line ≡ answer-text us) where

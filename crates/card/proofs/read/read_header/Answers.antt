@@ -1,35 +1,36 @@
+-- The head stops at the first field that is refused.
 use mathlib.Core.Path.{_∙_}
 use Rattle.std.proofs.shelf.Results.{err-from-errBy}
 use Rattle.bits.specs.Fields.{bits-of}
 use Rattle.card.proofs.Stopping.{at-version, at-jobs, at-crews, at-layover, none-stops}
 use Rattle.card.proofs.read.read_header.Needs as need
 
-pub returns-in-Break-read-entry : need.returns-in-Break-read-entry
-returns-in-Break-read-entry c =
+pub returns-in-Break-read-field : need.returns-in-Break-read-field
+returns-in-Break-read-field c =
     let p = err-from-errBy (c .from-residual .result) (c .from-residual .ensures .1) in
-    rw (p .1, p .2) (at-version (bits-of (c .args .bytes .now)) (c .in-Break-read-entry .field-0 .0) (c .in-Break-read-entry .ensures tt))
+    rw (p .1, p .2) (at-version (bits-of (c .args .bytes .now)) (c .in-Break-read-field .field-0 .0) (c .in-Break-read-field .ensures tt))
 
 pub returns-in-Break-jobs : need.returns-in-Break-jobs
 returns-in-Break-jobs c =
     let p = err-from-errBy (c .from-residual-in-Break-jobs .result) (c .from-residual-in-Break-jobs .ensures .1) in
-    rw (p .1, p .2) (at-jobs (bits-of (c .args .bytes .now)) (c .in-Break-jobs .field-0 .0) (c .in-Continue-read-entry .ensures tt .all-hold) (c .in-Break-jobs .ensures tt))
+    rw (p .1, p .2) (at-jobs (bits-of (c .args .bytes .now)) (c .in-Break-jobs .field-0 .0) (c .in-Continue-read-field .ensures tt .all-hold) (c .in-Break-jobs .ensures tt))
 
 pub returns-in-Break-crews : need.returns-in-Break-crews
 returns-in-Break-crews c =
     let p = err-from-errBy (c .from-residual-in-Break-crews .result) (c .from-residual-in-Break-crews .ensures .1) in
-    rw (p .1, p .2) (at-crews (bits-of (c .args .bytes .now)) (c .in-Break-crews .field-0 .0) (c .in-Continue-read-entry .ensures tt .all-hold) (c .in-Continue-jobs .ensures tt .all-hold)
+    rw (p .1, p .2) (at-crews (bits-of (c .args .bytes .now)) (c .in-Break-crews .field-0 .0) (c .in-Continue-read-field .ensures tt .all-hold) (c .in-Continue-jobs .ensures tt .all-hold)
     (c .in-Break-crews .ensures tt))
 
 pub returns-in-Break-layover : need.returns-in-Break-layover
 returns-in-Break-layover c =
     let p = err-from-errBy (c .from-residual-in-Break-layover .result) (c .from-residual-in-Break-layover .ensures .1) in
-    rw (p .1, p .2) (at-layover (bits-of (c .args .bytes .now)) (c .in-Break-layover .field-0 .0) (c .in-Continue-read-entry .ensures tt .all-hold) (c .in-Continue-jobs .ensures tt .all-hold)
+    rw (p .1, p .2) (at-layover (bits-of (c .args .bytes .now)) (c .in-Break-layover .field-0 .0) (c .in-Continue-read-field .ensures tt .all-hold) (c .in-Continue-jobs .ensures tt .all-hold)
     (c .in-Continue-crews .ensures tt .all-hold) (c .in-Break-layover .ensures tt))
 
 pub returns : need.returns
 returns c =
     record {
-      all-hold = none-stops (bits-of (c .args .bytes .now)) (c .in-Continue-read-entry .ensures tt .all-hold) (c .in-Continue-jobs .ensures tt .all-hold)
+      all-hold = none-stops (bits-of (c .args .bytes .now)) (c .in-Continue-read-field .ensures tt .all-hold) (c .in-Continue-jobs .ensures tt .all-hold)
           (c .in-Continue-crews .ensures tt .all-hold) (c .in-Continue-layover .ensures tt .all-hold);
       does = record {
         jobs = c .new .ensures .jobs ∙ c .in-Continue-jobs .ensures tt .does .is;

@@ -1,3 +1,4 @@
+-- The line that was written is the one that answers the card.
 use mathlib.Core.Path.{_∙_}
 use Rattle.std.proofs.shelf.Results.{err-from-errBy}
 use Rattle.base.specs.Refusal.{said}
@@ -9,7 +10,7 @@ pub returns-in-Continue-written : need.returns-in-Continue-written
 returns-in-Continue-written c =
     let us = bits-of (c .args .card .now) in
     let head = c .in-Ok .ensures tt in
-    written us _ _ _ (text-taken us _ _ (head .all-hold) (c .jobs .ensures ∙ head .does .jobs) (c .crews .ensures ∙ head .does .crews)) _ _ (told-taken us (head .all-hold)) (c .in-Continue-written .ensures tt)
+    written us _ _ _ (text-taken us _ _ (head .all-hold) (c .jobs .ensures .value ∙ head .does .jobs) (c .crews .ensures .value ∙ head .does .crews)) _ _ (told-taken us (head .all-hold)) (c .in-Continue-written .ensures tt)
 
 pub returns-in-Continue-written-2 : need.returns-in-Continue-written-2
 returns-in-Continue-written-2 c =
@@ -23,7 +24,7 @@ returns-in-Break-written c =
     let head = c .in-Ok .ensures tt in
     let p = err-from-errBy (c .from-residual .result) (c .from-residual .ensures .1) in
     rw (p .1, p .2)
-    (unwritten us _ _ _ (text-taken us _ _ (head .all-hold) (c .jobs .ensures ∙ head .does .jobs) (c .crews .ensures ∙ head .does .crews)) _ (c .in-Break-written .ensures tt))
+    (unwritten us _ _ _ (text-taken us _ _ (head .all-hold) (c .jobs .ensures .value ∙ head .does .jobs) (c .crews .ensures .value ∙ head .does .crews)) _ (c .in-Break-written .ensures tt))
 
 pub returns-in-Break-written-2 : need.returns-in-Break-written-2
 returns-in-Break-written-2 c =
