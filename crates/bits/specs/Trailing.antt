@@ -8,7 +8,7 @@ use lib.ListN.{length, getD}
 use Rattle.std.specs.declared.option.Option.{Option}
 use Rattle.std.specs.declared.option.Option.the-variants.{Some, None}
 
--- Where the byte ends in which bit p would stand, or p itself where a byte ends before it.
+-- The first multiple of 8 from p on: where the filling behind bit p ends.
 abbrev pub whole : ℕ → ℕ
 whole p = (p + 7) / 8 * 8
 
@@ -16,11 +16,12 @@ whole p = (p + 7) / 8 * 8
 abbrev pub at-fault : List ℕ → ℕ → ℕ → Bool
 at-fault us p q = (leb p q && ltb q (length us)) && (eqb (getD us q 0) 1 || leb (whole p) q)
 
--- The first number that passes the test, if one does.
-pub record Lowest (test : ℕ → Bool) (q : ℕ) : Type 0 where
+-- q passes the test, and nothing before it does.
+pub record First-passing (test : ℕ → Bool) (q : ℕ) : Type 0 where
   pub passes : test q ≡ true
   pub before : (p : ℕ) → p < q → test p ≡ false
 
+-- The first number that passes the test, if one does.
 abbrev pub First : (ℕ → Bool) → Option ℕ → Type 0
-First test (Some q) = Lowest test q
+First test (Some q) = First-passing test q
 First test None = (q : ℕ) → test q ≡ false

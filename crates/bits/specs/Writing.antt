@@ -22,6 +22,6 @@ pub record Misfit (old : List ℕ) (p w x : ℕ) (new : List ℕ) : Type 0 where
   pub kept : new ≡ old
 
 -- What writing x into the w bits from bit p on answers, and what the bytes then are.
-abbrev pub Writes : List ℕ → ℕ → ℕ → ℕ → Bool → List ℕ → Type 0
-Writes old p w x true new = Wrote (bits-of old) p w x (bits-of new)
-Writes old p w x false new = Misfit old p w x new
+abbrev pub Writes-field : List ℕ → ℕ → ℕ → ℕ → Bool → List ℕ → Type 0
+Writes-field old p w x true new = Wrote (bits-of old) p w x (bits-of new)
+Writes-field old p w x false new = Misfit old p w x new

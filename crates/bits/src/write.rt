@@ -3,14 +3,14 @@ ghost use mathlib.Core.Path.{_≡_};
 ghost use Prim.Native.Nat.{_+_, _*_, _/_, _^_, _<_, _≤_};
 ghost use lib.ListN.{length, set};
 ghost use Rattle.bits.specs.Fields.{bits-of};
-ghost use Rattle.bits.specs.Writing.{Writes, Wrote};
+ghost use Rattle.bits.specs.Writing.{Writes-field, Wrote};
 use crate::read::bit;
 use crate::width::Width;
 
 /// Writes `value` into the `width` bits that begin at bit `at`, and leaves all other bits as they are. Answers whether it did:
 /// it writes nothing where the bytes end before the field does, or where the value has more bits.
 pub fn write(bytes: &mut [u8], at: u32, width: Width<63>, value: u64) -> bool
-    ensures { λ r. ⌜ Writes (now (bytes .entry)) at (width .bits) value r (now (bytes .exit)) ⌝ }
+    ensures { λ r. ⌜ Writes-field (now (bytes .entry)) at (width .bits) value r (now (bytes .exit)) ⌝ }
 {
     let end = at as usize + width.bits as usize;
     if end.div_ceil(8) > bytes.len() || value >> width.bits != 0 {

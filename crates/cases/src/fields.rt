@@ -22,6 +22,9 @@ fn reads() -> Result<(), Fail> {
     check_eq(read_u64(&bytes, 0, Width { bits: 41 }), None)?;
     check_eq(read_u8(&bytes, 39, Width { bits: 1 }), Some(0))?;
     check_eq(read_u8(&bytes, 40, Width { bits: 1 }), None)?;
+    check_eq(read_u8(&bytes, 4, Width { bits: 8 }), Some(0x0C))?;
+    check_eq(read_u8(&[0xFF], 0, Width { bits: 8 }), Some(255))?;
+    check_eq(read_u32(&[0xFF; 4], 0, Width { bits: 32 }), Some(u32::MAX))?;
     check_eq(read_u8(&[], 0, Width { bits: 1 }), None)?;
     check_eq(read_u64(&bytes, u32::MAX, Width { bits: 63 }), None)
 }

@@ -51,6 +51,10 @@ fn in_ascending_sequence() -> Result<(), Fail> {
         at = (at + 1) % 8;
     }
     check_eq(at, 4)?;
-    check_eq(set(&[9, 4]).lowest(), Some(4))?;
+    let mut two = set(&[9, 4]);
+    check_eq(two.lowest(), Some(4))?;
+    check_eq(two.take_lowest(), Some(4))?;
+    check_eq(two.take_lowest(), Some(9))?;
+    check_eq(two.take_lowest(), None)?;
     check_eq(JobSet::empty().lowest(), None)
 }

@@ -7,11 +7,11 @@ use std::io::Read;
 use std::io::Write;
 
 // The longest card has 345 bytes, and one byte more shows that a card is too long.
-const ENOUGH: u64 = 346;
+const CARD_LIMIT: u64 = 346;
 
 fn main(rt: LibcRuntime) -> Result<(), AnyError> {
     let mut card = Vec::new(rt.alloc());
-    rt.stdin().take(ENOUGH).read_to_end(&mut card)?;
+    rt.stdin().take(CARD_LIMIT).read_to_end(&mut card)?;
     let mut text = [0u8; 2048];
     match answer_card(&card, &mut text) {
         Ok(Answer { taken, written }) => {

@@ -1,3 +1,4 @@
+-- Each turn takes in one bit.
 use mathlib.Core.Path.{_≡_}
 use Prim.Native.Nat.{_+_, _-_}
 use native.Mathlib.Omega.{arith}

@@ -1,3 +1,4 @@
+-- The bits so far are those of a field that holds the value so far.
 use Prim.Native.Nat.{_-_}
 use Rattle.bits.specs.Fields.{bits-of}
 use Rattle.bits.proofs.Packing.{So-far}

@@ -1,3 +1,4 @@
+-- A shift and a mask give one bit of a byte.
 use mathlib.Core.Path.{_≡_, sym, _∙_}
 use Prim.Native.Nat.{_/_, _%_, _-_, _^_}
 use native.Mathlib.Omega.{arith}

@@ -1,3 +1,4 @@
+-- A field that ends behind the last byte is cut off.
 use native.Mathlib.Omega.{arith}
 use Rattle.bits.proofs.Packing.{length-bits}
 use Rattle.bits.proofs.read.read_u64.Needs as need

@@ -1,3 +1,4 @@
+-- The first bit at fault is one of the filling, or the first of a byte too many.
 use mathlib.Core.Path.{_≡_, sym, ap, _∙_}
 use Prim.Native.Nat.{ℕ, _*_, _≤_, _<_}
 use mathlib.Core.Logic.{⊎-elim}

@@ -1,3 +1,4 @@
+-- The filling so far is zero.
 use mathlib.Core.Path.{_≡_}
 use Prim.Native.Nat.{ℕ, _<_, _≤_}
 use lib.ListN.{getD}

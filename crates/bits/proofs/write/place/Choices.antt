@@ -1,3 +1,4 @@
+-- After k turns the first k bits of the value are in place.
 use mathlib.Core.Path.{_≡_}
 use Rattle.bits.specs.Fields.{bits-of}
 use Rattle.bits.proofs.Placing.{placed}

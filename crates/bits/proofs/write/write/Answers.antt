@@ -1,3 +1,4 @@
+-- Why nothing was written: the field is cut off, or the value has more bits.
 use mathlib.Core.Path.{refl}
 use Prim.Native.Nat.{_+_, _^_}
 use native.Mathlib.Omega.{arith}
