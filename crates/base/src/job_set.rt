@@ -8,6 +8,7 @@ ghost use lib.ListN.{length};
 ghost use Rattle.std.specs.Options.{Cases};
 ghost use Rattle.std.specs.Orderings.{Decides};
 ghost use Rattle.base.specs.JobSets.{has, members, size, Empty, Subset, Disjoint, Lowest, Takes-lowest, to-come, Gives-next, Same-members, Ascending, Listed, Complete, Size-within, Subset-size, Union-size};
+use crate::word;
 
 /// A set of job numbers, 0 to 63. Numbers above 63 are members of nothing and change nothing.
 #[derive(Clone, Copy, PartialEq, Eq, Debug)]
@@ -20,17 +21,15 @@ impl JobSet {
     pub fn empty() -> JobSet
         ensures { λ r. ⌜ Empty (r .bits) ⌝ }
     {
-        JobSet { bits: 0 }
+        JobSet::below(0)
     }
 
     /// The set of every number below `n` and below 64.
     pub fn below(n: u8) -> JobSet
         ensures { λ r. ⌜ ((u : ℕ) → has (r .bits) u ≡ (ltb u n && ltb u 64)) ⌝ }
     {
-        if n > 63 {
-            JobSet { bits: u64::MAX }
-        } else {
-            JobSet { bits: (1 << n) - 1 }
+        JobSet {
+            bits: word::ones(n.min(64)),
         }
     }
 
@@ -39,7 +38,7 @@ impl JobSet {
         ensures value { λ r. ⌜ r ≡ has (self .bits) job ⌝ }
         ensures within { λ r. ⌜ (r ≡ true → job ≤ 63) ⌝ }
     {
-        job <= 63 && (self.bits >> job) & 1 == 1
+        job <= 63 && word::digit(self.bits, job)
     }
 
     /// Adds `job`, and answers whether it was new.
@@ -51,7 +50,7 @@ impl JobSet {
         if job > 63 || self.contains(job) {
             return false;
         }
-        *self = self.union(JobSet { bits: 1 << job });
+        self.bits = word::with(self.bits, job);
         true
     }
 
@@ -64,7 +63,7 @@ impl JobSet {
         if !self.contains(job) {
             return false;
         }
-        *self = self.difference(JobSet { bits: 1 << job });
+        self.bits = word::without(self.bits, job);
         true
     }
 
@@ -74,7 +73,7 @@ impl JobSet {
         ensures adds { λ r. ⌜ (Disjoint (self .bits) (other .bits) → size (r .bits) ≡ size (self .bits) + size (other .bits)) ⌝ }
     {
         JobSet {
-            bits: self.bits | other.bits,
+            bits: word::or(self.bits, other.bits),
         }
     }
 
@@ -83,7 +82,7 @@ impl JobSet {
         ensures { λ r. ⌜ ((u : ℕ) → has (r .bits) u ≡ (has (self .bits) u && has (other .bits) u)) ⌝ }
     {
         JobSet {
-            bits: self.bits & other.bits,
+            bits: word::and(self.bits, other.bits),
         }
     }
 
@@ -92,7 +91,7 @@ impl JobSet {
         ensures { λ r. ⌜ ((u : ℕ) → has (r .bits) u ≡ (has (self .bits) u && not (has (other .bits) u))) ⌝ }
     {
         JobSet {
-            bits: self.bits & !other.bits,
+            bits: word::and_not(self.bits, other.bits),
         }
     }
 
@@ -101,7 +100,7 @@ impl JobSet {
         ensures counted { λ r. ⌜ r ≡ eqb (size (self .bits)) 0 ⌝ }
         ensures bare { λ r. ⌜ Decides r (Empty (self .bits)) ⌝ }
     {
-        self.bits == 0
+        self.len() == 0
     }
 
     /// Whether every member is a member of `other`.
@@ -109,14 +108,15 @@ impl JobSet {
         ensures part { λ r. ⌜ Decides r (Subset (self .bits) (other .bits)) ⌝ }
         ensures smaller { λ r. ⌜ (r ≡ true → size (self .bits) ≤ size (other .bits)) ⌝ }
     {
-        self.difference(other).is_empty()
+        word::is_part(self.bits, other.bits)
     }
 
     /// How many members there are.
     pub fn len(self) -> u8
-        ensures { λ r. ⌜ r ≡ size (self .bits) ⌝ }
+        ensures value { λ r. ⌜ r ≡ size (self .bits) ⌝ }
+        ensures none { λ r. ⌜ Decides (eqb r 0) (Empty (self .bits)) ⌝ }
     {
-        self.bits.count_ones() as u8
+        word::count(self.bits)
     }
 
     /// The lowest member, if there is one.
@@ -126,7 +126,7 @@ impl JobSet {
         if self.is_empty() {
             return None;
         }
-        Some(self.bits.trailing_zeros() as u8)
+        Some(word::lowest(self.bits))
     }
 
     /// Takes the lowest member out, if there is one, and answers it.
@@ -135,7 +135,7 @@ impl JobSet {
         ensures others { λ r. ⌜ Cases r (Empty (now (self .entry) .bits)) (λ v. (u : ℕ) → has (now (self .exit) .bits) u ≡ (has (now (self .entry) .bits) u && not (eqb u v))) ⌝ }
     {
         let job = self.lowest()?;
-        let _ = self.remove(job);
+        self.bits = word::without(self.bits, job);
         Some(job)
     }
 

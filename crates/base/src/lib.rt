@@ -2,3 +2,4 @@
 
 pub mod fault;
 pub mod job_set;
+mod word;
