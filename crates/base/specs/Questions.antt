@@ -2,7 +2,7 @@
 use mathlib.Core.Path.{_≡_}
 use mathlib.Core.Bool.{Bool, cond}
 use mathlib.Core.List.{List, [], _∷_, _++_}
-use Prim.Native.Nat.{ℕ}
+use Prim.Native.Nat.{ℕ, _≤_}
 use lib.Dec.{leb}
 use lib.ListN.{length, drop}
 use Rattle.std.specs.declared.option.Option.{Option}
@@ -46,7 +46,13 @@ Asks qs done kept (Err f) = Refused qs f kept
 abbrev pub room : List ℕ → List ℕ → List Question
 room text target = ask (leb (length text) (length target)) (says 10 (length text) Bits) ∷ []
 
--- A call that writes a text to the front of a lent target, which held `old` and then holds `new`: it asks question 10,
--- answers how many bytes it wrote, and leaves the rest of the target as it was.
+-- A text was written to the front of a target, which held `old` and then holds `new`: k bytes, and the rest is as it was.
+pub record Written (text old new : List ℕ) (k : ℕ) : Type 0 where
+  pub count : k ≡ length text
+  pub fits : k ≤ length old
+  pub bytes : new ≡ text ++ drop k old
+
+-- A call that writes a text to the front of a lent target: it asks question 10, answers how many bytes it wrote, and leaves
+-- the rest of the target as it was, or all of it where it is refused.
 abbrev pub Writes : List ℕ → List ℕ → List ℕ → Result ℕ Fault → Type 0
-Writes text old new r = Asks (room text old) (λ k. (k ≡ length text) × (new ≡ text ++ drop k old)) (new ≡ old) r
+Writes text old new r = Asks (room text old) (Written text old new) (new ≡ old) r

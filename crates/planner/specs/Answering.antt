@@ -1,15 +1,16 @@
 -- What `plan` answers to a card.
 use mathlib.Core.Path.{_≡_}
 use mathlib.Core.Bool.{Bool, true, false}
-use mathlib.Core.List.{List, _++_}
-use Prim.Native.Nat.{ℕ, _≤_}
-use lib.ListN.{length, drop}
+use mathlib.Core.List.{List}
+use Prim.Native.Nat.{ℕ}
 use Rattle.std.specs.declared.option.Option.{Option}
 use Rattle.std.specs.declared.option.Option.the-variants.{Some, None}
 use Rattle.std.specs.declared.result.Result.{Result}
+use Rattle.std.specs.declared.result.Result.the-variants.{Ok, Err}
 use Rattle.base.specs.declared.fault.Fault.{Fault}
-use Rattle.base.specs.Refusal.{Said}
-use Rattle.base.specs.Questions.{first-no, room, Asks}
+use Rattle.base.specs.Refusal.{Said, said}
+use Rattle.base.specs.Questions.{first-no, room, Asks, Written}
+use Rattle.card.specs.declared.header.Header.{Header}
 use Rattle.card.specs.Heading.{jobs-of, crews-of, heading}
 use Rattle.text.specs.Lines.{refusal-line, first-line}
 use Rattle.planner.specs.declared.answer.Answer.{Answer}
@@ -32,13 +33,16 @@ none-failed None = true
 unfoldable pub is-taken : List ℕ → Bool
 is-taken us = none-failed (first-no (heading us))
 
--- A card with the bits us was answered: its text stands at the front of the target, and the rest is as it was.
-pub record Answered (us old new : List ℕ) (taken : Bool) (written : ℕ) : Type 0 where
-  pub told : taken ≡ is-taken us
-  pub count : written ≡ length (answer-text us)
-  pub fits : written ≤ length old
-  pub text : new ≡ answer-text us ++ drop written old
+-- A card with the bits us was answered: its text was written, and the answer tells whether the card is taken.
+pub record Answered (us old new : List ℕ) (answer : Answer) : Type 0 where
+  pub told : answer .taken ≡ is-taken us
+  pub text : Written (answer-text us) old new (answer .written)
 
 -- What answering a card with the bits us answers itself, where the target held `old` and then holds `new`.
 abbrev pub Answers-card : List ℕ → List ℕ → List ℕ → Result Answer Fault → Type 0
-Answers-card us old new r = Asks (room (answer-text us) old) (λ a. Answered us old new (a .taken) (a .written)) (new ≡ old) r
+Answers-card us old new r = Asks (room (answer-text us) old) (Answered us old new) (new ≡ old) r
+
+-- For the function that writes the answer: the text that answers what was read of a card.
+abbrev pub wording : Result Header Fault → List ℕ
+wording (Ok header) = first-line (header .jobs) (header .crews)
+wording (Err fault) = refusal-line (said fault .number) (said fault .place)
