@@ -13,6 +13,7 @@ use Rattle.base.specs.Refusal.{says}
 use Rattle.base.specs.Questions.{Question, ask, first-no, Asks}
 use Rattle.bits.specs.Fields.{field, value-at}
 use Rattle.card.specs.declared.header.Header.{Header}
+use Rattle.card.specs.declared.read.Fields.{Fields}
 use Rattle.card.specs.declared.read.HeaderField.{HeaderField}
 use Rattle.card.specs.declared.read.HeaderField.the-variants.{Version, Jobs, Crews, Layover}
 
@@ -84,3 +85,12 @@ pub record InRange (value least most x : ℕ) : Type 0 where
 
 abbrev pub Reads-field : List ℕ → ℕ → ℕ → ℕ → ℕ → HeaderField → Result ℕ Fault → Type 0
 Reads-field us p w least most which r = Asks (ranged us p w least most (question which)) (λ x. InRange (value-at us p w) least most x) (Unit {0}) r
+
+-- For the function that reads the four fields: each holds its value, in range.
+pub record Ranged (us : List ℕ) (fields : Fields) : Type 0 where
+  pub jobs : InRange (jobs-of us) 1 64 (fields .jobs)
+  pub crews : InRange (crews-of us) 1 16 (fields .crews)
+  pub layover : InRange (layover-of us) 1 92160 (fields .layover)
+
+abbrev pub Reads-fields : List ℕ → Result Fields Fault → Type 0
+Reads-fields us r = Asks (heading us) (Ranged us) (Unit {0}) r

@@ -3,7 +3,7 @@ ghost use mathlib.Core.Path.{_≡_};
 ghost use Rattle.base.specs.Refusal.{said, says};
 ghost use Rattle.base.specs.declared.fault.Layer.the-variants.{Card};
 ghost use Rattle.bits.specs.Fields.{bits-of};
-ghost use Rattle.card.specs.Heading.{question, Reads-header, Reads-field, Head-reads-back};
+ghost use Rattle.card.specs.Heading.{question, Reads-header, Reads-fields, Reads-field, Head-reads-back};
 use crate::header::Header;
 use base::fault::Fault;
 use bits::read::read_u32;
@@ -32,9 +32,25 @@ impl HeaderField {
     }
 }
 
+// What the fields at the head of a card hold, behind the version.
+#[derive(Clone, Copy)]
+struct Fields {
+    jobs: u32,
+    crews: u32,
+    layover: u32,
+}
+
 /// Reads what stands at the head of a card: the version, which is 1, the jobs, the crews and the layover.
 pub fn read_header(bytes: &[u8]) -> Result<Header, Fault>
     ensures { λ r. ⌜ Reads-header (bits-of (now (bytes .entry))) r ⌝ }
+{
+    let fields = read_fields(bytes)?;
+    Ok(Header::new(fields.jobs as u8, fields.crews as u8, fields.layover))
+}
+
+// The fields at the head of a card, each of them in its range.
+fn read_fields(bytes: &[u8]) -> Result<Fields, Fault>
+    ensures { λ r. ⌜ Reads-fields (bits-of (now (bytes .entry))) r ⌝ }
 {
     read_field(bytes, HeaderField::Version, 0, Width { bits: 4 }, 1, 1)?;
     let jobs = read_field(bytes, HeaderField::Jobs, 4, Width { bits: 7 }, 1, 64)?;
@@ -47,7 +63,11 @@ pub fn read_header(bytes: &[u8]) -> Result<Header, Fault>
         1,
         92_160,
     )?;
-    Ok(Header::new(jobs as u8, crews as u8, layover))
+    Ok(Fields {
+        jobs,
+        crews,
+        layover,
+    })
 }
 
 // The field of `width` bits at bit `at`, which is to hold a value from `least` to `most`.

@@ -1,9 +1,8 @@
 -- The head stops at the first field that is refused.
-use mathlib.Core.Path.{_∙_}
 use Rattle.std.proofs.shelf.Results.{err-from-errBy}
 use Rattle.bits.specs.Fields.{bits-of}
 use Rattle.card.proofs.Stopping.{at-version, at-jobs, at-crews, at-layover, none-stops}
-use Rattle.card.proofs.read.read_header.Needs as need
+use Rattle.card.proofs.read.read_fields.Needs as need
 
 pub returns-in-Break-read-field : need.returns-in-Break-read-field
 returns-in-Break-read-field c =
@@ -33,8 +32,8 @@ returns c =
       all-hold = none-stops (bits-of (c .args .bytes .now)) (c .in-Continue-read-field .ensures tt .all-hold) (c .in-Continue-jobs .ensures tt .all-hold)
           (c .in-Continue-crews .ensures tt .all-hold) (c .in-Continue-layover .ensures tt .all-hold);
       does = record {
-        jobs = c .new .ensures .jobs ∙ c .in-Continue-jobs .ensures tt .does .is;
-        crews = c .new .ensures .crews ∙ c .in-Continue-crews .ensures tt .does .is;
-        layover = c .new .ensures .layover ∙ c .in-Continue-layover .ensures tt .does .is;
+        jobs = c .in-Continue-jobs .ensures tt .does;
+        crews = c .in-Continue-crews .ensures tt .does;
+        layover = c .in-Continue-layover .ensures tt .does;
       };
     }
