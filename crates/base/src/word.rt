@@ -2,7 +2,7 @@
 ghost use mathlib.Core.Path.{_≡_};
 ghost use mathlib.Core.Bool.{true, false, not, _&&_, _||_};
 ghost use mathlib.Core.List.{_∷_};
-ghost use Prim.Native.Nat.{ℕ, _+_, _≤_, _<_};
+ghost use Prim.Native.Nat.{ℕ, _+_, _≤_};
 ghost use lib.Dec.{eqb, ltb};
 ghost use Rattle.std.specs.Orderings.{Decides};
 ghost use Rattle.base.specs.JobSets.{has, members, size, Empty, Subset, Disjoint, Lowest};

@@ -1,6 +1,6 @@
 -- The head of a card stops at the first of its fields that is refused.
 use mathlib.Core.Path.{_≡_, _∙_}
-use mathlib.Core.List.{List, _++_}
+use mathlib.Core.List.{List}
 use Prim.Native.Nat.{ℕ}
 use Rattle.std.specs.declared.option.Option.the-variants.{None}
 use Rattle.base.specs.declared.fault.Fault.{Fault}

@@ -1,6 +1,6 @@
 -- The lines of text that the library writes, as lists of bytes.
 use mathlib.Core.Path.{_≡_}
-use mathlib.Core.List.{List, [], _∷_, _++_}
+use mathlib.Core.List.{List, _++_}
 use Prim.Native.Nat.{ℕ, _<_, _^_}
 use lib.Chars.{codes}
 use Rattle.std.specs.Written.{decimal}

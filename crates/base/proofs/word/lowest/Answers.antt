@@ -1,8 +1,6 @@
 -- The zeros below the lowest 1 are counted.
-use mathlib.Core.Path.{_≡_, ap}
-use Prim.Native.Nat.{_≤_}
+use mathlib.Core.Path.{ap}
 use native.Mathlib.Omega.{arith}
-use lib.Count.{trailingZeros}
 use lib.ListN.{length}
 use Rattle.base.proofs.Members.{members-bare, trailing-bare, trailing-has, trailing-within}
 use Rattle.base.proofs.word.lowest.Needs as need

@@ -1,6 +1,5 @@
 -- The piece stands behind what was in use.
 use borrow.Author.Needs.{needs}
-use native.Mathlib.Omega.{arith}
 use Rattle.std.proofs.shelf.Parts.{overwrites}
 use Rattle.text.proofs.page.Page.push.Needs as need
 
