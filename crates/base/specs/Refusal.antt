@@ -1,5 +1,6 @@
 -- What each refusal says: number, place and layer.
-use Rattle.std.specs.Prelude.{◌≡◌, ℕ}
+use Rattle.std.specs.Prelude.{◌≡◌, ℕ, Bool, ◌==◌}
+use Rattle.std.specs.Ordering.{on, eq_of_both}
 use Rattle.base.specs.declared.fault.Layer.{Layer}
 use Rattle.base.specs.declared.fault.Layer.TheVariants.{Bits, Card, Graph, Order, Run}
 use Rattle.base.specs.declared.fault.Fault.{Fault}
@@ -39,6 +40,10 @@ said (NoSuchGrant grant) = says 19 grant Run
 said (BeforeClock clock) = says 20 clock Run
 said (Overdue due) = says 21 due Run
 said (PassesOther job) = says 22 job Run
+
+-- Do two refusals say the same number and the same place?
+abbrev pub said_alike : Fault → Fault → Bool
+said_alike = eq_of_both (on (λ f. (said f).number) ◌==◌) (on (λ f. (said f).place) ◌==◌)
 
 -- A refusal is known by its number and its place.
 abbrev pub KnownByNumberAndPlace : Type 0

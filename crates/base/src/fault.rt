@@ -1,6 +1,6 @@
 //! Refusals. A call that refuses says which question was answered no, and where.
 ghost use Rattle.std.specs.Prelude.{◌≡◌, Decides};
-ghost use Rattle.base.specs.Refusal.{said, KnownByNumberAndPlace};
+ghost use Rattle.base.specs.Refusal.{said, said_alike, KnownByNumberAndPlace};
 ghost use Rattle.std.specs.Cmp.Rules.{comparing};
 ghost use Rattle.std.proofs.Common.{rules};
 ghost use Rattle.std.specs.Cmp as Keys;
@@ -144,11 +144,14 @@ impl Fault {
 
 /// Equality of refusals, by number and place.
 impl PartialEq for Fault {
-    ghost equals = { λ f g r. Decides r (f ≡ g) };
+    ghost eq = { said_alike };
 
     ghost laws = { Keys.partial_equiv_from_equiv (Prim.search (comparing, rules)) };
 
-    fn eq(&self, other: &Fault) -> bool {
+    fn eq(&self, other: &Fault) -> bool
+        ensures value { result ≡ said_alike self.now other.now }
+        ensures same { Decides result (self.now ≡ other.now) }
+    {
         self.number() == other.number() && self.place() == other.place()
     }
 }

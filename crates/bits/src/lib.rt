@@ -1,5 +1,6 @@
 //! Fields of 1 to 63 bits in bytes, most significant bit first, with bits counted from 0.
 //! This crate answers bits and counts. What a format refuses, it says itself.
+#![tactic(auto)]
 
 pub mod laws;
 pub mod read;

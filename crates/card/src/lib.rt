@@ -1,4 +1,5 @@
 //! The work card: a graph of jobs, packed into bits.
+#![tactic(auto)]
 
 pub mod header;
 pub mod read;

@@ -86,5 +86,5 @@ fn the_longest_line(rt: HostRuntime) {
     );
     assert!(rt; text == [7; 22]);
     assert_eq!(rt; write_refusal(fault, &mut text).ok(), Some(22));
-    assert!(rt; &text[0..22] == b"refused 17 4294967295\n");
+    assert!(rt; &text[0..22] == b"refused 17 4294967295\n".as_slice());
 }

@@ -1,4 +1,5 @@
 //! Worked examples, proved from the definitions, and tests.
+#![tactic(auto)]
 
 #[cfg(test)]
 mod answers;

@@ -5,4 +5,3 @@ pub mod Stopping
 pub mod Following
 pub mod Ruling
 pub mod Same
-pub mod Comparing

@@ -1,14 +1,17 @@
 -- Graphs with the same parts are the same value.
-use Rattle.std.proofs.Common.{◌≡◌, ℕ, zero, suc, ◌+◌, ◌%◌, ◌^◌, ◌<◌, ◌≤◌, false, List, length, sym, ap, ◌∙◌, subst, inl, inr, mod-eq_of_lt, pow-suc, arith}
+use Rattle.std.proofs.Common.{◌≡◌, ℕ, zero, suc, ◌+◌, ◌%◌, ◌^◌, ◌<◌, ◌≤◌, Bool, true, false, ◌&&◌, ◌==◌, Decides, List, length, sym, refl, ap, ◌∙◌, subst, inl, inr, mod-eq_of_lt, pow-suc, arith}
 use denote.Struct.Props.{props}
 use Rattle.std.proofs.lemmas.List.{ext_get_or}
-use Rattle.std.proofs.lemmas.Bool.{cases_lt, cases_Bool}
+use Rattle.std.proofs.lemmas.Bool.{cases_lt, cases_Bool, eqb-true, eq-eqb, and_parts, and_from}
+use Rattle.std.proofs.lemmas.Bool.Decides.{Decides-eqb}
+use Rattle.std.proofs.lemmas.Slice.Eq.{slice_eq-Decides}
 use Rattle.base.specs.declared.job_set.JobSet.{JobSet}
 use Rattle.base.specs.JobSets.{has}
 use Rattle.base.proofs.Members.{same_digits}
 use Rattle.graph.specs.declared.graph.Graph.{Graph}
 use Rattle.graph.specs.Rules.{none, Timed, Untimed, Lower, Preceded, Succeeded, Unpreceded}
 use Rattle.graph.specs.Graphs.{time_of, preds_of, is_pred}
+use Rattle.graph.specs.Alike.{sizes_alike, times_alike, preds_alike, jobs_alike}
 use Rattle.graph.specs.Laws.{SameParts, KnownByParts}
 
 -- ---- sets with the same members are the same number
@@ -159,3 +162,33 @@ module _ (g h : Graph) (same : SameParts g h) where
 
 pub known_by_parts : KnownByParts
 known_by_parts = same_graph
+
+-- ---- what `==` tests
+
+sets_same : (a b : JobSet) → Decides (a.bits == b.bits) (a ≡ b)
+sets_same a b = (
+  (λ e. ap (λ (n : ℕ). let s : JobSet = record { bits = n } in s) (eqb-true a.bits b.bits e)),
+  (λ e. eq-eqb a.bits b.bits (ap (λ (s : JobSet). s.bits) e)),
+)
+
+module _ (g h : Graph) where
+  times_same_decided : Decides (times_alike g h) (g.times ≡ h.times)
+  times_same_decided = slice_eq-Decides Decides-eqb g.times h.times (times_alike g h) refl
+
+  preds_same_decided : Decides (preds_alike g h) (g.preds ≡ h.preds)
+  preds_same_decided = slice_eq-Decides sets_same g.preds h.preds (preds_alike g h) refl
+
+  -- graphs whose sizes and jobs are alike are the same value, and no others
+  pub alike_same : (sizes jobs : Bool) → sizes ≡ sizes_alike g h → jobs ≡ jobs_alike g h → sizes ≡ true → Decides jobs (g ≡ h)
+  alike_same sizes jobs s j e =
+      let outer = and_parts ((g.jobs == h.jobs) && (g.crews == h.crews)) (g.layover == h.layover) (sym s ∙ e) in
+      let inner = and_parts (g.jobs == h.jobs) (g.crews == h.crews) outer.0 in
+      let a = eqb-true g.jobs h.jobs inner.0 in
+      let b = eqb-true g.crews h.crews inner.1 in
+      let d = eqb-true g.layover h.layover outer.1 in (
+        (λ t. let p = and_parts (times_alike g h) (preds_alike g h) (sym j ∙ t) in
+            let x = times_same_decided.0 p.0 in
+            let y = preds_same_decided.0 p.1 in
+            by_parts g h (λ i. (a i, b i, d i, x i, y i))),
+        (λ t. j ∙ and_from (times_alike g h) (preds_alike g h) (times_same_decided.1 (ap (λ (k : Graph). k.times) t)) (preds_same_decided.1 (ap (λ (k : Graph). k.preds) t))),
+      )

@@ -3,3 +3,4 @@ pub mod Rules
 pub mod Graphs
 pub mod Making
 pub mod Laws
+pub mod Alike

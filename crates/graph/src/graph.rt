@@ -2,8 +2,7 @@
 ghost use Rattle.std.specs.Prelude.{◌≡◌, ◌≤◌, length, Decides};
 ghost use Rattle.graph.specs.Rules.{Timed, Untimed, Lower, Preceded, Succeeded, Unpreceded};
 ghost use Rattle.std.specs.Cmp.Rules.{comparing};
-ghost use Rattle.std.proofs.Common.{rules, arith};
-ghost use Rattle.std.specs.Cmp as Keys;
+ghost use Rattle.std.proofs.Common.{rules};
 
 use base::job_set::JobSet;
 
@@ -36,30 +35,32 @@ pub struct Graph {
 }
 
 impl Graph {
+    ghost use Rattle.graph.specs.Alike.{sizes_alike, times_alike, preds_alike, jobs_alike};
+
     // Whether there are as many jobs and crews, and whether the train stands as long.
     fn same_sizes(&self, other: &Graph) -> bool
-        ensures { Decides result ((self.now.jobs ≡ other.now.jobs) × (self.now.crews ≡ other.now.crews) × (self.now.layover ≡ other.now.layover)) }
+        ensures { result ≡ sizes_alike self.now other.now }
     {
         self.jobs == other.jobs && self.crews == other.crews && self.layover == other.layover
     }
 
     // Whether the jobs have the same longest times and predecessors.
     fn same_jobs(&self, other: &Graph) -> bool
-        ensures { Decides result ((self.now.times ≡ other.now.times) × (self.now.preds ≡ other.now.preds)) }
+        ensures { result ≡ jobs_alike self.now other.now }
     {
         self.same_times(other) && self.same_preds(other)
     }
 
     // Whether the jobs have the same longest times.
     fn same_times(&self, other: &Graph) -> bool
-        ensures { Decides result (self.now.times ≡ other.now.times) }
+        ensures { result ≡ times_alike self.now other.now }
     {
         self.times == other.times
     }
 
     // Whether the jobs have the same predecessors.
     fn same_preds(&self, other: &Graph) -> bool
-        ensures { Decides result (self.now.preds ≡ other.now.preds) }
+        ensures { result ≡ preds_alike self.now other.now }
     {
         self.preds == other.preds
     }
@@ -67,16 +68,21 @@ impl Graph {
 
 /// Equality of graphs: their parts are the same.
 impl PartialEq for Graph {
-    ghost equals = { λ g h r. Decides r (g ≡ h) };
+    ghost use Rattle.graph.specs.Alike.{alike};
 
-    ghost laws = { Keys.partial_equiv_from_equiv (first_of (Prim.search (comparing, rules), Prim.grind (arith, Self.row.coded.inj))) };
+    ghost eq = { alike };
 
-    fn eq(&self, other: &Graph) -> bool {
+    ghost laws = { Prim.search (comparing, rules) depth 9 };
+
+    fn eq(&self, other: &Graph) -> bool
+        ensures value { result ≡ alike self.now other.now }
+        ensures same { Decides result (self.now ≡ other.now) }
+    {
         self.same_sizes(other) && self.same_jobs(other)
     }
 }
 
 /// Equality of graphs is reflexive.
 impl Eq for Graph {
-    ghost laws = { first_of (Prim.search (comparing, rules), Prim.grind (arith, Self.row.coded.inj)) };
+    ghost laws = { Prim.search (comparing, rules) depth 9 };
 }

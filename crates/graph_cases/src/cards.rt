@@ -29,7 +29,7 @@ fn graph_a_both_ways(rt: HostRuntime) {
     assert_eq!(rt; size(&place), 15);
     let mut target = [7; 17];
     assert_eq!(rt; write(&place, &mut target).ok(), Some(15));
-    assert!(rt; &target[0..15] == &CARD_A);
+    assert!(rt; &target[0..15] == CARD_A.as_slice());
     assert!(rt; target[15] == 7 && target[16] == 7);
 }
 

@@ -1,4 +1,5 @@
 //! Worked turnrounds, proved from the definitions, and tests of graphs and their cards.
+#![tactic(auto)]
 
 #[cfg(test)]
 mod cards;

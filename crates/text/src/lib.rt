@@ -1,4 +1,5 @@
 //! Lines of text, written into lent bytes.
+#![tactic(auto)]
 
 mod decimal;
 mod page;

@@ -10,9 +10,9 @@ pub returns : goal.returns
 returns c =
     let a = c.args.a in
     let b = c.args.b in
-    let left = c.and-not.result in
-    let to : Empty left → Subset a b = λ none u m. grind (arith, none u, c.and-not.ensures u) in
-    let from : Subset a b → Empty left = λ p u. grind (arith, p u, c.and-not.ensures u) in
+    let left = c.and_not.result in
+    let to : Empty left → Subset a b = λ none u m. grind (arith, none u, c.and_not.ensures u) in
+    let from : Subset a b → Empty left = λ p u. grind (arith, p u, c.and_not.ensures u) in
     record {
       part = (λ t. to (rw (eqb-true left 0 t) has-zero), λ p. eq-eqb left 0 (bare_is_zero left (omega arith) (from p)));
       smaller = λ t. part_size 64 a b (λ u l. to (rw (eqb-true left 0 t) has-zero) u);

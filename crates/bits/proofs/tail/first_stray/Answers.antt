@@ -22,7 +22,7 @@ returns-then-bytes-end c =
     let p = c.args.at in
     let len = length-bits c.args.bytes.now in
     record {
-      passes = too_many us p (c.div-ceil-end.result * 8) (omega arith) (omega arith);
+      passes = too_many us p (c.div_ceil-end.result * 8) (omega arith) (omega arith);
       before = λ q l. quiet us p q (λ h. c.loop-p.invariant q h (omega arith)) (omega arith);
     }
 

@@ -5,10 +5,10 @@ use Rattle.card.specs.Heading.{question}
 use Rattle.card.proofs.Ranging.{cut_off, out_of_range, in_range}
 use Rattle.card.proofs.read.read_field.Goals as goal
 
-pub returns-in-default : goal.returns-in-default
-returns-in-default c =
+pub returns-in_default : goal.returns-in_default
+returns-in_default c =
     record {
-      fails = cut_off (bits_of c.args.bytes.now) c.args.at c.args.width.bits c.args.least c.args.most (question c.args.which) c.in-default.ensures;
+      fails = cut_off (bits_of c.args.bytes.now) c.args.at c.args.width.bits c.args.least c.args.most (question c.args.which) c.in_default.ensures;
       keeps = tt;
     }
 

@@ -16,8 +16,8 @@ loop-u-preserved c =
     numbered_more c.args.preds.bits c.loop-u.u c.loop-u.value c.from.result
     (c.from.ensures ∙ one_bit c.contains.result ∙ ap (λ b. cond {A = ℕ} b 1 0) c.contains.ensures.value) c.loop-u.invariant
 
-pub overflow-mul-value : goal.overflow-mul-value
-overflow-mul-value c =
+pub overflow_mul-value : goal.overflow_mul-value
+overflow_mul-value c =
     let small = c.loop-u.invariant.small in
     let most : 2 ^ c.loop-u.u ≤ 2 ^ 62 = pow_mono {i = c.loop-u.u} {j = 62} (omega arith) in
     omega arith

@@ -5,9 +5,9 @@ use Rattle.graph_card.specs.Parts.{allowed_in, words}
 use Rattle.graph_card.proofs.Ranging.{cut_off, not_allowed, is_allowed}
 use Rattle.graph_card.proofs.read.read_field.Goals as goal
 
-pub returns-in-default : goal.returns-in-default
-returns-in-default c = record {
-  fails = cut_off (bits_of c.args.bytes.now) c.args.at c.args.width.bits (allowed_in c.args.which) (words c.args.which) c.in-default.ensures;
+pub returns-in_default : goal.returns-in_default
+returns-in_default c = record {
+  fails = cut_off (bits_of c.args.bytes.now) c.args.at c.args.width.bits (allowed_in c.args.which) (words c.args.which) c.in_default.ensures;
   keeps = tt;
 }
 

@@ -6,37 +6,37 @@ use Rattle.bits.specs.Fields.{bits_of}
 use Rattle.graph_card.proofs.Stopping.{at_version, at_jobs, at_crews, at_layover, none_stops}
 use Rattle.graph_card.proofs.read.read_head.Goals as goal
 
-pub returns-in-err-read-field : goal.returns-in-err-read-field
-returns-in-err-read-field c =
-    let p = err_from_is_err_and c.from-residual.result c.from-residual.ensures.1 in
-    rw (p.1, p.2) (at_version (bits_of c.args.bytes.now) c.in-err-read-field.field-0.0 c.in-err-read-field.ensures)
+pub returns-in_err-read_field : goal.returns-in_err-read_field
+returns-in_err-read_field c =
+    let p = err_from_is_err_and c.from_residual.result c.from_residual.ensures.1 in
+    rw (p.1, p.2) (at_version (bits_of c.args.bytes.now) c.in_err-read_field.field-0.0 c.in_err-read_field.ensures)
 
-pub returns-in-err-jobs : goal.returns-in-err-jobs
-returns-in-err-jobs c =
-    let p = err_from_is_err_and c.from-residual-in-err-jobs.result c.from-residual-in-err-jobs.ensures.1 in
-    rw (p.1, p.2) (at_jobs (bits_of c.args.bytes.now) c.in-err-jobs.field-0.0 c.in-ok-read-field.ensures.all_hold c.in-err-jobs.ensures)
+pub returns-in_err-jobs : goal.returns-in_err-jobs
+returns-in_err-jobs c =
+    let p = err_from_is_err_and c.from_residual-in_err-jobs.result c.from_residual-in_err-jobs.ensures.1 in
+    rw (p.1, p.2) (at_jobs (bits_of c.args.bytes.now) c.in_err-jobs.field-0.0 c.in_ok-read_field.ensures.all_hold c.in_err-jobs.ensures)
 
-pub returns-in-err-crews : goal.returns-in-err-crews
-returns-in-err-crews c =
-    let p = err_from_is_err_and c.from-residual-in-err-crews.result c.from-residual-in-err-crews.ensures.1 in
-    rw (p.1, p.2) (at_crews (bits_of c.args.bytes.now) c.in-err-crews.field-0.0 c.in-ok-read-field.ensures.all_hold c.in-ok-jobs.ensures.all_hold
-    c.in-err-crews.ensures)
+pub returns-in_err-crews : goal.returns-in_err-crews
+returns-in_err-crews c =
+    let p = err_from_is_err_and c.from_residual-in_err-crews.result c.from_residual-in_err-crews.ensures.1 in
+    rw (p.1, p.2) (at_crews (bits_of c.args.bytes.now) c.in_err-crews.field-0.0 c.in_ok-read_field.ensures.all_hold c.in_ok-jobs.ensures.all_hold
+    c.in_err-crews.ensures)
 
-pub returns-in-err-layover : goal.returns-in-err-layover
-returns-in-err-layover c =
-    let p = err_from_is_err_and c.from-residual-in-err-layover.result c.from-residual-in-err-layover.ensures.1 in
-    rw (p.1, p.2) (at_layover (bits_of c.args.bytes.now) c.in-err-layover.field-0.0 c.in-ok-read-field.ensures.all_hold c.in-ok-jobs.ensures.all_hold
-    c.in-ok-crews.ensures.all_hold c.in-err-layover.ensures)
+pub returns-in_err-layover : goal.returns-in_err-layover
+returns-in_err-layover c =
+    let p = err_from_is_err_and c.from_residual-in_err-layover.result c.from_residual-in_err-layover.ensures.1 in
+    rw (p.1, p.2) (at_layover (bits_of c.args.bytes.now) c.in_err-layover.field-0.0 c.in_ok-read_field.ensures.all_hold c.in_ok-jobs.ensures.all_hold
+    c.in_ok-crews.ensures.all_hold c.in_err-layover.ensures)
 
 pub returns : goal.returns
 returns c =
     record {
-      all_hold = none_stops (bits_of c.args.bytes.now) c.in-ok-read-field.ensures.all_hold c.in-ok-jobs.ensures.all_hold
-          c.in-ok-crews.ensures.all_hold c.in-ok-layover.ensures.all_hold;
+      all_hold = none_stops (bits_of c.args.bytes.now) c.in_ok-read_field.ensures.all_hold c.in_ok-jobs.ensures.all_hold
+          c.in_ok-crews.ensures.all_hold c.in_ok-layover.ensures.all_hold;
       does = record {
-        version = let v = c.in-ok-read-field.ensures.does in let e : c.in-ok-read-field.field-0 ≡ 1 = eqb-true c.in-ok-read-field.field-0 1 v.lawful in rw e at v;
-        jobs = c.in-ok-jobs.ensures.does;
-        crews = c.in-ok-crews.ensures.does;
-        layover = c.in-ok-layover.ensures.does;
+        version = let v = c.in_ok-read_field.ensures.does in let e : c.in_ok-read_field.field-0 ≡ 1 = eqb-true c.in_ok-read_field.field-0 1 v.lawful in rw e at v;
+        jobs = c.in_ok-jobs.ensures.does;
+        crews = c.in_ok-crews.ensures.does;
+        layover = c.in_ok-layover.ensures.does;
       };
     }

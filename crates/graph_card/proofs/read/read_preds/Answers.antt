@@ -11,8 +11,8 @@ returns-then-v-eq0 c = record {
   does = no_marks (bits_of c.args.bytes.now) c.args.at c.args.v c.empty.result.bits c.if-v-eq0.true c.empty.ensures;
 }
 
-pub returns-in-default : goal.returns-in-default
-returns-in-default c = record { fails = preds_cut (bits_of c.args.bytes.now) c.args.at c.args.v c.if-v-eq0.false c.in-default.ensures; keeps = tt }
+pub returns-in_default : goal.returns-in_default
+returns-in_default c = record { fails = preds_cut (bits_of c.args.bytes.now) c.args.at c.args.v c.if-v-eq0.false c.in_default.ensures; keeps = tt }
 
 pub returns-then-value-eq0 : goal.returns-then-value-eq0
 returns-then-value-eq0 c = record {
@@ -25,5 +25,5 @@ returns c =
     let got = c.in-Some.ensures in
     let some = c.if-value-eq0.false in record {
       all_hold = preds_some (bits_of c.args.bytes.now) c.args.at c.args.v c.in-Some.value c.if-v-eq0.false got (omega arith);
-      does = record { same_bits = got.same_bits ∙ c.from-field.ensures.bits; lower = c.from-field.ensures.lower; some = inr (c.from-field.ensures.some (omega arith)) };
+      does = record { same_bits = got.same_bits ∙ c.from_field.ensures.bits; lower = c.from_field.ensures.lower; some = inr (c.from_field.ensures.some (omega arith)) };
     }

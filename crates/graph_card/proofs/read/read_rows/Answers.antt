@@ -13,16 +13,16 @@ use Rattle.graph_card.proofs.read.read_rows.Goals as goal
 pub loop-v-init : goal.loop-v-init
 loop-v-init c = so_far_none (bits_of c.args.bytes.now) c.empty-preds.result
 
-pub returns-in-err-job : goal.returns-in-err-job
-returns-in-err-job c =
-    let p = err_from_is_err_and c.from-residual.result c.from-residual.ensures.1 in
+pub returns-in_err-job : goal.returns-in_err-job
+returns-in_err-job c =
+    let p = err_from_is_err_and c.from_residual.result c.from_residual.ensures.1 in
     rw (p.1, p.2) record {
-      fails = asked_stops (job_asked (bits_of c.args.bytes.now)) c.args.jobs c.loop-v.v (said c.in-err-job.field-0.0) (omega arith) c.loop-v.invariant.asked c.in-err-job.ensures.fails;
+      fails = asked_stops (job_asked (bits_of c.args.bytes.now)) c.args.jobs c.loop-v.v (said c.in_err-job.field-0.0) (omega arith) c.loop-v.invariant.asked c.in_err-job.ensures.fails;
       keeps = tt;
     }
 
 pub loop-v-preserved : goal.loop-v-preserved
-loop-v-preserved c = so_far_more (bits_of c.args.bytes.now) c.loop-v.v c.loop-v.times c.loop-v.preds c.in-ok-job.job (omega arith) c.loop-v.invariant c.in-ok-job.ensures
+loop-v-preserved c = so_far_more (bits_of c.args.bytes.now) c.loop-v.v c.loop-v.times c.loop-v.preds c.in_ok-job.job (omega arith) c.loop-v.invariant c.in_ok-job.ensures
 
 pub returns : goal.returns
 returns c =

@@ -3,4 +3,4 @@ use Rattle.graph_card.proofs.Drafting.{unfilled}
 use Rattle.graph_card.proofs.read.read_unfilled.Goals as goal
 
 pub returns : goal.returns
-returns c = unfilled c.args.bytes.now c.in-ok-draft.draft c.in-ok-draft.ensures c.make.result c.make.ensures
+returns c = unfilled c.args.bytes.now c.in_ok-draft.draft c.in_ok-draft.ensures c.make.result c.make.ensures

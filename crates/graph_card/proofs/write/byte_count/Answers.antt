@@ -7,12 +7,12 @@ use Rattle.graph_card.proofs.write.byte_count.Goals as goal
 pub returns : goal.returns
 returns c =
     let g = c.args.graph.now in
-    let at : c.first-bit.result ≡ start g.jobs = c.first-bit.ensures.is ∙ ap start c.jobs.ensures.value in
+    let at : c.first_bit.result ≡ start g.jobs = c.first_bit.ensures.is ∙ ap start c.jobs.ensures.value in
     let long = length-card g in
     let few = c.jobs.ensures.range.1 in
     let same = c.jobs.ensures.value in
     let range = start_range g.jobs (omega arith) in
     let low = range.0 in
     let high = range.1 in
-    let up = c.div-ceil.ensures in
+    let up = c.div_ceil.ensures in
     record { value = omega arith; range = (omega arith, omega arith) }

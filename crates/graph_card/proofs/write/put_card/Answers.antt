@@ -5,8 +5,8 @@ use Rattle.graph_card.specs.Cards.{card}
 use Rattle.graph_card.proofs.Putting.{both_parts, whole_card, length-card, start_range}
 use Rattle.graph_card.proofs.write.put_card.Goals as goal
 
-pub put-head-requires : goal.put-head-requires
-put-head-requires c =
+pub put_head-requires : goal.put_head-requires
+put_head-requires c =
     let g = c.args.graph.now in
     let range = start_range g.jobs g.few_jobs in
     let low = range.0 in
@@ -15,8 +15,8 @@ put-head-requires c =
     let same = c.clear.auto.target in
     omega arith
 
-pub put-jobs-requires : goal.put-jobs-requires
-put-jobs-requires c =
+pub put_jobs-requires : goal.put_jobs-requires
+put_jobs-requires c =
     let g = c.args.graph.now in
     let long = length-card g in
     let room = c.requires in
@@ -30,6 +30,6 @@ returns c =
     let old = c.args.target.now in
     let is = c.size.ensures.value in
     let room = c.requires in
-    whole_card g old c.clear.new.target c.put-jobs.new.target c.size.result is (omega arith) c.clear.ensures.small (λ i. omega (arith, c.type-inv.target i)) c.clear.ensures.zeros
-    (both_parts (bits_of c.clear.new.target) (bits_of c.put_head.new.target) (bits_of c.put-jobs.new.target) g c.put_head.ensures c.put-jobs.ensures)
+    whole_card g old c.clear.new.target c.put_jobs.new.target c.size.result is (omega arith) c.clear.ensures.small (λ i. omega (arith, c.type_inv.target i)) c.clear.ensures.zeros
+    (both_parts (bits_of c.clear.new.target) (bits_of c.put_head.new.target) (bits_of c.put_jobs.new.target) g c.put_head.ensures c.put_jobs.ensures)
     ∙ ap (λ n. card g ++ drop n old) is

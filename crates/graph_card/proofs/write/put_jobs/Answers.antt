@@ -17,8 +17,8 @@ loop-v-init c =
     let low = range.0 in
     no_rows (bits_of c.args.target.now) g.times g.preds (omega arith)
 
-pub put-job-requires : goal.put-job-requires
-put-job-requires c =
+pub put_job-requires : goal.put_job-requires
+put_job-requires c =
     let g = c.args.graph.now in
     let same = c.jobs-v-end.ensures.value in
     let few = c.jobs-v-end.ensures.range.1 in
@@ -30,7 +30,7 @@ put-job-requires c =
 pub loop-v-preserved : goal.loop-v-preserved
 loop-v-preserved c =
     let g = c.args.graph.now in
-    one_row (bits_of c.args.target.now) (bits_of c.loop-v.target) (bits_of c.put-job.new.target) g.times g.preds c.loop-v.v c.loop-v.invariant c.put-job.ensures
+    one_row (bits_of c.args.target.now) (bits_of c.loop-v.target) (bits_of c.put_job.new.target) g.times g.preds c.loop-v.v c.loop-v.invariant c.put_job.ensures
 
 pub returns : goal.returns
 returns c =

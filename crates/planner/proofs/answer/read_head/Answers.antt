@@ -6,4 +6,4 @@ use Rattle.planner.proofs.answer.read_head.Goals as goal
 pub returns : goal.returns
 returns c =
     let us = bits_of c.args.card.now in
-    record { text = words us c.read-header.result c.read-header.ensures; taken = tells us c.read-header.result c.read-header.ensures }
+    record { text = words us c.read_header.result c.read_header.ensures; taken = tells us c.read_header.result c.read_header.ensures }

@@ -3,16 +3,16 @@ use Rattle.std.proofs.Common.{sym, refl}
 use Rattle.graph.proofs.Asked.{time_out, preds_out, job_in}
 use Rattle.graph.proofs.graph.make.ask_job.Goals as goal
 
-pub returns-then-not-allows-time : goal.returns-then-not-allows-time
-returns-then-not-allows-time c = record { fails = time_out c.args.time c.args.preds.bits c.args.v (sym c.if-not-allows-time.ensures); keeps = tt }
+pub returns-then-not-allows_time : goal.returns-then-not-allows_time
+returns-then-not-allows_time c = record { fails = time_out c.args.time c.args.preds.bits c.args.v (sym c.if-not-allows_time.ensures); keeps = tt }
 
-pub returns-then-not-are-lawful : goal.returns-then-not-are-lawful
-returns-then-not-are-lawful c = record {
-  fails = preds_out c.args.time c.args.preds.bits c.args.v (sym c.if-not-allows-time.ensures) (sym c.if-not-are-lawful.ensures.value);
+pub returns-then-not-are_lawful : goal.returns-then-not-are_lawful
+returns-then-not-are_lawful c = record {
+  fails = preds_out c.args.time c.args.preds.bits c.args.v (sym c.if-not-allows_time.ensures) (sym c.if-not-are_lawful.ensures.value);
   keeps = tt;
 }
 
 pub returns : goal.returns
 returns c =
-    let e = c.if-not-are-lawful.ensures in
-    record { all_hold = job_in c.args.time c.args.preds.bits c.args.v (sym c.if-not-allows-time.ensures) (sym e.value); does = e.below refl }
+    let e = c.if-not-are_lawful.ensures in
+    record { all_hold = job_in c.args.time c.args.preds.bits c.args.v (sym c.if-not-allows_time.ensures) (sym e.value); does = e.below refl }

@@ -8,15 +8,15 @@ use Rattle.graph.proofs.graph.make.ask_jobs.Goals as goal
 pub loop-v-init : goal.loop-v-init
 loop-v-init c = (asked_none _, λ v l. absurd (omega arith))
 
-pub returns-in-err-ask-job : goal.returns-in-err-ask-job
-returns-in-err-ask-job c =
-    let p = err_from_is_err_and c.from-residual.result c.from-residual.ensures.1 in
+pub returns-in_err-ask_job : goal.returns-in_err-ask_job
+returns-in_err-ask_job c =
+    let p = err_from_is_err_and c.from_residual.result c.from_residual.ensures.1 in
     rw (p.1, p.2) record {
-      fails = asked_stops _ c.args.draft.now.jobs c.loop-v.v (said c.in-err-ask-job.field-0.0) (omega arith) c.loop-v.invariant.0 c.in-err-ask-job.ensures.fails;
+      fails = asked_stops _ c.args.draft.now.jobs c.loop-v.v (said c.in_err-ask_job.field-0.0) (omega arith) c.loop-v.invariant.0 c.in_err-ask_job.ensures.fails;
       keeps = tt;
     }
 
 pub loop-v-preserved : goal.loop-v-preserved
 loop-v-preserved c =
-    let done = c.in-ok-ask-job.ensures in
+    let done = c.in_ok-ask_job.ensures in
     (asked_more _ c.loop-v.v c.loop-v.invariant.0 done.all_hold, below_more _ _ c.loop-v.invariant.1 done.does)
