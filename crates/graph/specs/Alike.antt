@@ -1,5 +1,5 @@
 -- When `==` on graphs answers yes: each of their parts is the same.
-use Rattle.std.specs.Prelude.{ℕ, Bool, ◌==◌}
+use Rattle.std.specs.Prelude.{Bool, ◌==◌}
 use Rattle.std.specs.Cmp.Lexicographic.{pointwise}
 use Rattle.std.specs.Ordering.{on, eq_of_both}
 use Rattle.base.specs.declared.job_set.JobSet.{JobSet}

@@ -1,6 +1,7 @@
 //! Reads a work card from standard input and prints what the planner answers.
 //! The exit status is 0 where the card is taken and 1 where it is refused.
 #![tactic(auto)]
+
 use anyhow::anyhow;
 use planner::answer::{Answer, answer_card};
 use std::io::{Read, Write};
