@@ -7,7 +7,7 @@ use Rattle.base.specs.JobSets.{to_come, GivesNext}
 
 -- In a loop `for v in set.members()` two ways lead to what has come and what is to come.
 -- An invariant can speak of what is to come, `to_come l.v-iterator`: a turn takes its first entry away.
--- Or it speaks of `l.yielded`: `road-turn` and `road-end` of the shelf's Roads take `members_road it`, where `it` is the
--- iterator before the loop, `c.into-iter-v-iterator.result`.
+-- Or it speaks of `l.yielded`: std's `YieldsList-turn` and `YieldsList-end` take `members_road it`, where `it` is the iterator
+-- before the loop, `c.into_iter-v-iterator.result`.
 pub members_road : (it : Members) → YieldsList GivesNext (λ x. x) it (to_come it)
 members_road = YieldsList-from_shown GivesNext (λ x. x) to_come (λ s t h. ap length h.0) (λ s x t h. h)

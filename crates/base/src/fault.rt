@@ -3,7 +3,6 @@ ghost use Rattle.std.specs.Prelude.{◌≡◌, Decides};
 ghost use Rattle.base.specs.Refusal.{said, said_alike, KnownByNumberAndPlace};
 ghost use Rattle.std.specs.Cmp.Rules.{comparing};
 ghost use Rattle.std.proofs.Common.{rules};
-ghost use Rattle.std.specs.Cmp as Keys;
 
 /// The layer of the library that a question belongs to.
 #[derive(Clone, Copy, PartialEq, Eq, Debug)]
@@ -146,7 +145,7 @@ impl Fault {
 impl PartialEq for Fault {
     ghost eq = { said_alike };
 
-    ghost laws = { Keys.partial_equiv_from_equiv (Prim.search (comparing, rules)) };
+    ghost laws = { Prim.search (comparing, rules) };
 
     fn eq(&self, other: &Fault) -> bool
         ensures value { result ≡ said_alike self.now other.now }

@@ -35,10 +35,10 @@ get_or-field (suc w) x i l = go (cases_lt i w) (get_or-field w (x / 2) i)
         get_or_push (field w (x / 2)) (x % 2) 0 i (omega arith) ∙ (rw e (ap (λ n. n % 2) (sym (div-one x))))
 
 -- bit p of bytes
-pub get_d_bits : (bs : List ℕ) (p : ℕ) → p < 8 * length bs → get_or (bits_of bs) p 0 ≡ get_or bs (p / 8) 0 / 2 ^ (7 - p % 8) % 2
+pub get_or-bits : (bs : List ℕ) (p : ℕ) → p < 8 * length bs → get_or (bits_of bs) p 0 ≡ get_or bs (p / 8) 0 / 2 ^ (7 - p % 8) % 2
 unfolding bits_of
-get_d_bits [] p l = absurd (omega arith)
-get_d_bits (b ∷ bs) p l = go (cases_lt p 8) (get_d_bits bs (p - 8))
+get_or-bits [] p l = absurd (omega arith)
+get_or-bits (b ∷ bs) p l = go (cases_lt p 8) (get_or-bits bs (p - 8))
   where
     go : (p < 8) ⊎ (8 ≤ p) → (p - 8 < 8 * length bs → get_or (bits_of bs) (p - 8) 0 ≡ get_or bs ((p - 8) / 8) 0 / 2 ^ (7 - (p - 8) % 8) % 2)
         → get_or (field 8 b ++ bits_of bs) p 0 ≡ get_or (b ∷ bs) (p / 8) 0 / 2 ^ (7 - p % 8) % 2

@@ -5,7 +5,7 @@ use Rattle.std.proofs.lemmas.Nat.{one_shl}
 use Rattle.std.proofs.lemmas.List.{set-get_or}
 use Rattle.bits.specs.Fields.{bits_of}
 use Rattle.bits.proofs.Flipping.{flipped, bits_set}
-use Rattle.bits.proofs.Packing.{get_d_bits}
+use Rattle.bits.proofs.Packing.{get_or-bits}
 use Rattle.bits.proofs.write.set_bit.Goals as goal
 
 pub returns-then-bit-one : goal.returns-then-bit-one
@@ -14,7 +14,7 @@ returns-then-bit-one c =
     let p = c.args.p in
     let a = get_or bs (p / 8) 0 in
     let e : (1 * 2 ^ (7 - p % 8)) % 256 ≡ 2 ^ (7 - p % 8) = one_shl (7 - p % 8) 8 (omega arith) in
-    let was = get_d_bits bs p (omega arith) in
+    let was = get_or-bits bs p (omega arith) in
     let is = c.bit.ensures.is in
     rw e (bits_set bs (p / 8) (p % 8) (bit_xor a (2 ^ (7 - p % 8))) c.args.one (omega arith) (omega arith)
     (flipped a (p % 8) c.args.one (omega arith) (omega arith))
