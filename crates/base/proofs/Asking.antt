@@ -1,9 +1,12 @@
 -- Laws of questions that are asked in turn.
-use Rattle.std.proofs.Common.{◌≡◌, ℕ, zero, suc, ◌+◌, ◌<◌, ◌≤◌, Bool, true, false, cond, leb, ◌⊎◌, List, [], ◌∷◌, ◌++◌, length, Some, None, refl, ap, ◌∙◌, ap₂, inl, inr, add-one, arith}
-use Rattle.std.proofs.lemmas.Bool.{cases_lt, le-leb, lt-leb, leb-true, and_parts, and_from, and_left, and_right}
-use Rattle.base.specs.declared.fault.Layer.TheVariants.{Bits}
-use Rattle.base.specs.Refusal.{Said, says}
-use Rattle.base.specs.Questions.{Question, ask, first_no, asked_below, within, room}
+use Rattle.std.proofs.Common.{◌≡◌, ℕ, zero, suc, ◌+◌, ◌<◌, ◌≤◌, true, false, List, [], ◌∷◌, ◌++◌, Some, None, Result, refl, ◌∙◌, ap₂, inl, inr, add-one, arith}
+use Rattle.std.specs.Result.{IsErr, IsErrAnd}
+use Rattle.std.proofs.lemmas.Result.{err_from_is_err_and}
+use Rattle.std.proofs.lemmas.Bool.{cases_lt}
+use Rattle.std.proofs.lemmas.Bool.Decides.{nat_tests}
+use Rattle.base.specs.declared.fault.Fault.{Fault}
+use Rattle.base.specs.Refusal.{Said, said}
+use Rattle.base.specs.Questions.{Question, first_no, asked_below, within, Refused, Asks}
 
 -- a question that holds is passed over
 pub passed : (q : Question) (qs : List Question) → q.holds ≡ true → first_no (q ∷ qs) ≡ first_no qs
@@ -23,62 +26,40 @@ nothing_asked = refl
 pub all_passed : (xs ys : List Question) → first_no xs ≡ None → first_no (xs ++ ys) ≡ first_no ys
 unfolding first_no
 all_passed [] ys e = refl
-all_passed (x ∷ xs) ys e = go x.holds e (all_passed xs ys)
-  where
-    go : (b : Bool) → cond b (first_no xs) (Some x.otherwise) ≡ None → (first_no xs ≡ None → first_no (xs ++ ys) ≡ first_no ys)
-        → cond b (first_no (xs ++ ys)) (Some x.otherwise) ≡ first_no ys
-    go true e rec = rec e
-    go false e rec = let z : ◌≡◌ {A = ℕ} 0 1 = cc in absurd (omega arith)
+all_passed (x ∷ xs) ys e = grind (arith, nat_tests, all_passed xs ys)
 
 -- where one of the first questions fails, the others are not asked
 pub one_failed : (xs ys : List Question) (s : Said) → first_no xs ≡ Some s → first_no (xs ++ ys) ≡ Some s
 unfolding first_no
-one_failed [] ys s e = let z : ◌≡◌ {A = ℕ} 0 1 = cc in absurd (omega arith)
-one_failed (x ∷ xs) ys s e = go x.holds e (one_failed xs ys s)
-  where
-    go : (b : Bool) → cond b (first_no xs) (Some x.otherwise) ≡ Some s → (first_no xs ≡ Some s → first_no (xs ++ ys) ≡ Some s)
-        → cond b (first_no (xs ++ ys)) (Some x.otherwise) ≡ Some s
-    go true e rec = rec e
-    go false e rec = e
+one_failed [] ys s e = cc
+one_failed (x ∷ xs) ys s e = grind (arith, nat_tests, one_failed xs ys s)
+
+-- a refusal is handed on, as `?` does: `r` is what is returned
+pub refused : {T : Type 0} (xs : List Question) (done : T → Type 0) (kept : Type 0) (r : Result T Fault) (f : Fault) → IsErr r × IsErrAnd r (λ e. e ≡ f) → Refused xs f kept → Asks xs done kept r
+refused xs done kept r f e t = let p = err_from_is_err_and r e.1 in rw (p.1, p.2) t
+
+-- the same of a call that refuses
+pub stopped : (xs ys : List Question) (f : Fault) (kept : Type 0) → Refused xs f kept → Refused (xs ++ ys) f kept
+stopped xs ys f kept r = record { fails = one_failed xs ys (said f) r.fails; keeps = r.keeps }
 
 -- where all questions hold, the first does
 pub held : (q : Question) (qs : List Question) → first_no (q ∷ qs) ≡ None → q.holds ≡ true
 unfolding first_no
-held q qs e = go q.holds e
-  where
-    go : (b : Bool) → cond b (first_no qs) (Some q.otherwise) ≡ None → b ≡ true
-    go true e = refl
-    go false e = let z : ◌≡◌ {A = ℕ} 0 1 = cc in absurd (omega arith)
+held q qs e = grind (arith, nat_tests)
 
 -- where all questions hold, the first ones and the others do
 pub both_held : (xs ys : List Question) → first_no (xs ++ ys) ≡ None → (first_no xs ≡ None) × (first_no ys ≡ None)
 unfolding first_no
 both_held [] ys e = (refl, e)
-both_held (x ∷ xs) ys e = go x.holds e (both_held xs ys)
-  where
-    go : (b : Bool) → cond b (first_no (xs ++ ys)) (Some x.otherwise) ≡ None → (first_no (xs ++ ys) ≡ None → (first_no xs ≡ None) × (first_no ys ≡ None))
-        → (cond b (first_no xs) (Some x.otherwise) ≡ None) × (first_no ys ≡ None)
-    go true e rec = rec e
-    go false e rec = let z : ◌≡◌ {A = ℕ} 0 1 = cc in absurd (omega arith)
+both_held (x ∷ xs) ys e = grind (arith, nat_tests, both_held xs ys)
 
--- a value in its range, below it and above it
+-- a value in its range
 pub inside : (least x most : ℕ) → least ≤ x → x ≤ most → within least x most ≡ true
-inside least x most l h = and_from (leb least x) (leb x most) (le-leb least x l) (le-leb x most h)
+inside least x most l h = grind (arith, nat_tests)
 
-pub outside : (least x most : ℕ) → (x < least) ⊎ (most < x) → within least x most ≡ false
-outside least x most (inl l) = and_left (leb least x) (leb x most) (lt-leb least x l)
-outside least x most (inr h) = and_right (leb least x) (leb x most) (lt-leb x most h)
-
+-- and what it is to be in its range
 pub bounds : (least x most : ℕ) → within least x most ≡ true → (least ≤ x) × (x ≤ most)
-bounds least x most e = let p = and_parts (leb least x) (leb x most) e in (leb-true least x p.0, leb-true x most p.1)
-
--- ---- question 10
-
-pub fits : (text target : List ℕ) → length text ≤ length target → first_no (room text target) ≡ None
-fits text target h = passed (ask (leb (length text) (length target)) (says 10 (length text) Bits)) [] (le-leb (length text) (length target) h) ∙ nothing_asked
-
-pub too_long : (text target : List ℕ) (n : ℕ) → length text ≡ n → length target < length text → first_no (room text target) ≡ Some (says 10 n Bits)
-too_long text target n e h = failed (ask (leb (length text) (length target)) (says 10 (length text) Bits)) [] (lt-leb (length text) (length target) h) ∙ ap (λ k. Some (says 10 k Bits)) e
+bounds least x most e = grind (arith, nat_tests)
 
 -- ---- questions about each number below another
 
@@ -107,6 +88,10 @@ asked_stops about (suc n) v s l a e = elim (cases_lt v n) [
       let e' : first_no (about n) ≡ Some s = rw q at e in
       all_passed (asked_below about n) (about n) a' ∙ e'
 ]
+
+-- a call that stands on one about v, which is refused
+pub asked_to : {T : Type 0} (about : ℕ → List Question) (n v : ℕ) (done : T → Type 0) (kept : Type 0) (r : Result T Fault) (f : Fault) → IsErr r × IsErrAnd r (λ e. e ≡ f) → v < n → first_no (asked_below about v) ≡ None → Refused (about v) f kept → Asks (asked_below about n) done kept r
+asked_to about n v done kept r f e l a t = refused (asked_below about n) done kept r f e record { fails = asked_stops about n v (said f) l a t.fails; keeps = t.keeps }
 
 -- where all hold, those about each number do
 pub asked_held : (about : ℕ → List Question) (n v : ℕ) → first_no (asked_below about n) ≡ None → v < n → first_no (about v) ≡ None

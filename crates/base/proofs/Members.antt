@@ -1,13 +1,15 @@
 -- Laws of `members_below`: which numbers it lists, and how many.
-use Rattle.std.proofs.Common.{◌≡◌, ℕ, zero, suc, ◌+◌, ◌*◌, ◌/◌, ◌%◌, ◌^◌, ◌<◌, ◌≤◌, Bool, true, false, cond, not, ◌&&◌, ◌||◌, eqb, ◌⊎◌, List, [], ◌∷◌, ◌++◌, length, get_or, sym, refl, ap, ◌∙◌, inl, inr, mod-eq_of_lt, div-one, one-add, arith}
+use Rattle.std.proofs.Common.{◌≡◌, ℕ, zero, suc, ◌+◌, ◌*◌, ◌%◌, ◌^◌, ◌<◌, ◌≤◌, Bool, true, false, cond, not, ◌&&◌, ◌||◌, eqb, ◌⊎◌, [], ◌∷◌, ◌++◌, length, get_or, sym, refl, ap, ◌∙◌, inl, inr, mod-eq_of_lt, one-add, ◌-◌, ◌≢◌, Decides, w64, arith}
 use lib.Arith.{lt-one}
-use lib.Count.{ones, ones_cat, ones-ones, count_trailing_zeros, under}
-use Rattle.std.proofs.lemmas.Nat.{mod-pow-add, mod_below, pow_pos}
+use lib.Bits.{bit_and, bit_or}
+use lib.Count.{ones, ones_cat, ones-ones, count_trailing_zeros}
+use Rattle.std.proofs.lemmas.Nat.{mod-pow-add, mod_below, pow_pos, zero_from_ones}
+use Rattle.std.proofs.lemmas.Nat.Bits.{same_from_bits, same_from_bits_below, bit_at-trailing_zeros}
 use Rattle.std.proofs.lemmas.List.{length-append, get_or_append_left, get_or_push}
-use Rattle.std.proofs.lemmas.Bool.{cases_lt, both_ways, eq-eqb, ne_eqb}
+use Rattle.std.proofs.lemmas.Bool.{cases_lt, both_ways, eq-eqb, eqb-true, ne_eqb}
 use Rattle.std.proofs.lemmas.Bool.Decides.{nat_tests}
-use Rattle.base.specs.JobSets.{has, members_below, members, size, Empty}
-use Rattle.base.proofs.Digits.{digit, has-zero, has_past, has_next, has-pow}
+use Rattle.base.specs.JobSets.{has, members_below, members, size, Empty, Lowest}
+use Rattle.base.proofs.Digits.{digit, has-zero, has-pow, has-or, has-shl, has_cleared}
 
 and_true : (d : Bool) → (d && not false) ≡ d
 and_true true = refl
@@ -15,18 +17,12 @@ and_true false = refl
 
 -- ---- the number is known from its members
 
--- the lowest n + 1 digits are digit n and the lowest n
-digits_more : (s n : ℕ) → s % 2 ^ suc n ≡ cond (has s n) 1 0 * 2 ^ n + s % 2 ^ n
-digits_more s n = rw (← one-add n, mod-pow-add s 1 n, digit s n)
-
-pub same_digits : (n a b : ℕ) → ((u : ℕ) → u < n → has a u ≡ has b u) → a % 2 ^ n ≡ b % 2 ^ n
-same_digits zero a b h = omega (arith, mod_below a 1 (omega arith), mod_below b 1 (omega arith))
-same_digits (suc n) a b h =
-    let e : a % 2 ^ n ≡ b % 2 ^ n = same_digits n a b (λ u l. h u (omega arith)) in
-    rw (digits_more a n, digits_more b n, e, h n (omega arith))
-
 pub same_members : (a b : ℕ) → a < 2 ^ 64 → b < 2 ^ 64 → ((u : ℕ) → u < 64 → has a u ≡ has b u) → a ≡ b
-same_members a b p q h = sym (mod-eq_of_lt p) ∙ same_digits 64 a b h ∙ mod-eq_of_lt q
+same_members a b p q h = same_from_bits_below 64 a b p q (λ u l. digit a u ∙ rw (h u l) (sym (digit b u)))
+
+-- the same with no bound
+pub same_set : (a b : ℕ) → ((u : ℕ) → has a u ≡ has b u) → a ≡ b
+same_set a b h = same_from_bits a b (λ u. digit a u ∙ rw (h u) (sym (digit b u)))
 
 pub bare_is_zero : (s : ℕ) → s < 2 ^ 64 → Empty s → s ≡ 0
 bare_is_zero s p h = same_members s 0 p (omega arith) (λ u l. h u ∙ sym (has-zero u))
@@ -47,11 +43,6 @@ size_more s n = go (has s n) refl
 pub members_zero : (s : ℕ) → members_below s 0 ≡ []
 unfolding members_below
 members_zero s = refl
-
-pub members_same : (n a b : ℕ) → ((u : ℕ) → u < n → has a u ≡ has b u) → members_below a n ≡ members_below b n
-members_same zero a b h = members_zero a ∙ sym (members_zero b)
-members_same (suc n) a b h =
-    members_more a n (has b n) (h n (omega arith)) ∙ rw (members_same n a b (λ u l. h u (omega arith))) (sym (members_more b n (has b n) refl))
 
 pub members_bare : (n s : ℕ) → ((u : ℕ) → u < n → has s u ≡ false) → members_below s n ≡ []
 members_bare zero s h = members_zero s
@@ -93,10 +84,6 @@ listed (suc n) s k l = elim (at_cases n s k l) [
   | inr w ↦ rw (w.0, (at_end n s w.1).1) (w.1, omega arith)
 ]
 
--- what a call of `next` or `take_lowest` gives is a member
-pub first_listed : (s v : ℕ) (xs : List ℕ) → members s ≡ v ∷ xs → (has s v ≡ true) × (v < 64)
-first_listed s v xs e = let w : (has s (get_or (members s) 0 0) ≡ true) × (get_or (members s) 0 0 < 64) = listed 64 s 0 (rw e (omega arith)) in rw e at w
-
 pub ascending : (n s j k : ℕ) → j < k → k < length (members_below s n) → get_or (members_below s n) j 0 < get_or (members_below s n) k 0
 ascending zero s j k h l = absurd (omega (arith, ap length (members_zero s)))
 ascending (suc n) s j k h l = elim (at_cases n s k l) [
@@ -128,9 +115,6 @@ size_within (suc n) s = grind (arith, size_more s n, size_within n s)
 pub size_of_zero : size 0 ≡ 0
 size_of_zero = ap length (members_bare 64 0 (λ u l. has-zero u))
 
-pub zero_from_size : (s : ℕ) → s < 2 ^ 64 → size s ≡ 0 → s ≡ 0
-zero_from_size s p z = same_members s 0 p (omega arith) (λ u l. bare_from_size 64 s z u l ∙ sym (has-zero u))
-
 pub part_size : (n a b : ℕ) → ((u : ℕ) → u < n → has a u ≡ true → has b u ≡ true) → length (members_below a n) ≤ length (members_below b n)
 part_size zero a b h = rw (members_zero a) (omega arith)
 part_size (suc n) a b h =
@@ -153,6 +137,10 @@ size_one_more n v s t l m h =
     union_size n s (2 ^ v) t (λ u g i. has-pow v u ∙ ne_eqb u v (λ e. both_ways (has s u) (rw e m) i)) (λ u g. rw has-pow (h u))
     ∙ rw (one, members_bare n 0 (λ u g. has-zero u))
 
+-- the lowest n + 1 digits are digit n and the lowest n
+digits_more : (s n : ℕ) → s % 2 ^ suc n ≡ cond (has s n) 1 0 * 2 ^ n + s % 2 ^ n
+digits_more s n = rw (← one-add n, mod-pow-add s 1 n, digit s n)
+
 one_digit : (d : Bool) → ones (cond d 1 0) ≡ cond d 1 0
 unfolding ones
 one_digit true = refl
@@ -164,36 +152,40 @@ ones_size (suc n) s =
     rw (digits_more s n, ones_cat n (cond (has s n) 1 0) (s % 2 ^ n) (mod_below s (2 ^ n) (pow_pos n)), ones_size n s, size_more s n, one_digit (has s n))
     (omega arith)
 
--- ---- the lowest member, by counting zeros
+-- ---- what the bit operations do to the members
 
-trailing_more : (n s : ℕ) → count_trailing_zeros (suc n) s ≡ cond (has s 0) 0 (suc (count_trailing_zeros n (s / 2)))
-unfolding count_trailing_zeros
-trailing_more n s =
-    let e : s % 2 ≡ cond (has s 0) 1 0 = rw div-one at (digit s 0) in
-    rw e (go (has s 0))
-  where
-    go : (d : Bool) → under (cond d 1 0) (count_trailing_zeros n (s / 2)) ≡ cond d 0 (suc (count_trailing_zeros n (s / 2)))
-    go true = refl
-    go false = refl
+-- one digit is made 1
+pub set_more : (s v : ℕ) → v < 64 → has s v ≡ false → size (bit_or s ((1 * 2 ^ v) % 2 ^ 64)) ≡ size s + 1
+set_more s v l z = size_one_more 64 v s (bit_or s ((1 * 2 ^ v) % 2 ^ 64)) l z (λ u. has-or s ((1 * 2 ^ v) % 2 ^ 64) u ∙ rw (has-shl v u l))
 
-pub trailing_bare : (n s u : ℕ) → u < count_trailing_zeros n s → has s u ≡ false
-unfolding count_trailing_zeros
-trailing_bare zero s u l = absurd (omega arith)
-trailing_bare (suc n) s zero l = grind (arith, trailing_more n s)
-trailing_bare (suc n) s (suc u) l = has_next s u ∙ trailing_bare n (s / 2) u (grind (arith, trailing_more n s))
+-- one digit is made 0
+pub cleared_fewer : (s v : ℕ) → v < 64 → s < 2 ^ 64 → has s v ≡ true → size s ≡ size (bit_and s (2 ^ 64 - 1 - (1 * 2 ^ v) % 2 ^ 64)) + 1
+cleared_fewer s v l p m =
+    size_one_more 64 v (bit_and s (2 ^ 64 - 1 - (1 * 2 ^ v) % 2 ^ 64)) s l (grind (arith, nat_tests, has_cleared s v v l p))
+    (λ u. grind (arith, nat_tests, has_cleared s v u l p, m))
 
-pub trailing_has : (n s : ℕ) → count_trailing_zeros n s < n → has s (count_trailing_zeros n s) ≡ true
-trailing_has zero s l = absurd (omega arith)
-trailing_has (suc n) s l = go (has s 0) refl (λ g. trailing_has n (s / 2) g)
-  where
-    go : (d : Bool) → has s 0 ≡ d → (count_trailing_zeros n (s / 2) < n → has (s / 2) (count_trailing_zeros n (s / 2)) ≡ true) → has s (count_trailing_zeros (suc n) s) ≡ true
-    go true e i = let z : count_trailing_zeros (suc n) s ≡ 0 = trailing_more n s ∙ rw e in rw (z, e)
-    go false e i =
-        let z : count_trailing_zeros (suc n) s ≡ suc (count_trailing_zeros n (s / 2)) = trailing_more n s ∙ rw e in
-        rw (z, has_next) (i (omega arith))
+pub cleared_first : (s v : ℕ) → v < 64 → s < 2 ^ 64 → Lowest s v → members s ≡ v ∷ members (bit_and s (2 ^ 64 - 1 - (1 * 2 ^ v) % 2 ^ 64))
+cleared_first s v l p w = members_lowest 64 v s _ l w.member w.first (λ u. has_cleared s v u l p)
 
-pub trailing_within : (s : ℕ) → s < 2 ^ 64 → (Empty s → ⊥) → count_trailing_zeros 64 s ≤ 63
-trailing_within s p n = elim (cases_lt (count_trailing_zeros 64 s) 64) [
-  | inl l ↦ omega arith
-  | inr g ↦ absurd (n (λ u. elim (cases_lt u 64) [ inl l ↦ trailing_bare 64 s u (omega arith) | inr h ↦ has_past s u 64 p h ]))
-]
+-- as many zeros as stand below the lowest 1
+pub lowest_found : (s : ℕ) → s < 2 ^ 64 → size s ≢ 0 → Lowest s (count_trailing_zeros 64 s)
+unfolding has
+lowest_found s p n =
+    let some : 0 < s = grind (arith, size_of_zero, n) in
+    let low = bit_at-trailing_zeros w64 s some p in
+    let l = low.0 in
+    record { within = omega arith; member = rw low.1; first = λ u g. rw (low.2 u g) }
+
+-- as many members as digits that are 1
+pub counted : (s : ℕ) → s < 2 ^ 64 → ones s ≡ size s
+counted s p = let e : s % 2 ^ 64 ≡ s = mod-eq_of_lt p in rw e at (ones_size 64 s)
+
+pub none_counted : (s : ℕ) → s < 2 ^ 64 → Decides (eqb (ones s) 0) (Empty s)
+none_counted s p = (
+  λ t. rw (zero_from_ones s (eqb-true (ones s) 0 t)) has-zero,
+  λ b. eq-eqb (ones s) 0 (counted s p ∙ rw (bare_is_zero s p b) size_of_zero),
+)
+
+-- a set with no member lists none
+pub none_listed : (s : ℕ) → Empty s → members s ≡ []
+none_listed s b = members_bare 64 s (λ u l. b u)

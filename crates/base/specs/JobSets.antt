@@ -1,6 +1,6 @@
 -- Sets of job numbers, and their laws.
-use Rattle.std.specs.Prelude.{◌≡◌, ℕ, zero, suc, ◌+◌, ◌/◌, ◌%◌, ◌^◌, ◌<◌, ◌≤◌, Bool, true, false, cond, ◌||◌, List, [], ◌∷◌, ◌++◌, length, Option, MatchOption, ◌==◌, slice_index}
-use Rattle.base.specs.declared.job_set.Members.{Members}
+use Rattle.std.specs.Prelude.{◌≡◌, ℕ, zero, suc, ◌+◌, ◌/◌, ◌%◌, ◌^◌, ◌<◌, ◌≤◌, Bool, true, false, cond, ◌&&◌, ◌||◌, List, [], ◌∷◌, ◌++◌, length, Option, MatchOption, ◌==◌, nat_lt, slice_index}
+use Rattle.std.specs.List.{list_any}
 
 -- A set of the numbers 0 to 63 is kept as one number: v is a member where bit v, counted from the lowest, is 1.
 unfoldable pub has : ℕ → ℕ → Bool
@@ -37,17 +37,17 @@ pub record Lowest (s v : ℕ) : Type 0 where
   pub member : has s v ≡ true
   pub first : (u : ℕ) → u < v → has s u ≡ false
 
+-- The members of s are the numbers of the list that are below 64.
+abbrev pub IsSetOf : List ℕ → ℕ → Type 0
+IsSetOf jobs s = (u : ℕ) → has s u ≡ (list_any (λ j. u == j) jobs && nat_lt u 64)
+
 -- The lowest member is taken out, if there is one: `before` and `after` are the sets then and now.
 abbrev pub TakesLowest : ℕ → Option ℕ → ℕ → Type 0
 TakesLowest before r after = MatchOption r ((members before ≡ []) × (after ≡ before)) (λ v. members before ≡ v ∷ members after)
 
--- The members that an iterator has yet to give.
-abbrev pub to_come : Members → List ℕ
-to_come it = members it.left.bits
-
--- One call of an iterator over the members: the next member, or none and the iterator as it was.
-abbrev pub GivesNext : Members → Option ℕ → Members → Type 0
-GivesNext it r after = TakesLowest it.left.bits r after.left.bits
+-- One call of an iterator over members, of which `before` were to come and then `after` are: the next one, or none where none was left.
+abbrev pub GivesNext : List ℕ → Option ℕ → List ℕ → Type 0
+GivesNext before r after = MatchOption r ((before ≡ []) × (after ≡ before)) (λ v. before ≡ v ∷ after)
 
 -- Two sets with the same members are the same number.
 abbrev pub SameMembers : Type 0

@@ -42,9 +42,13 @@ abbrev pub Asks : {T : Type 0} → List Question → (T → Type 0) → Type 0 �
 Asks qs done kept (Ok x) = Taken qs (done x)
 Asks qs done kept (Err f) = Refused qs f kept
 
--- Question 10: does the target hold all of the text? The place is how many bytes are needed.
+-- Question 10: does the target hold so many bytes? The place is how many are needed.
+abbrev pub space : ℕ → List ℕ → List Question
+space needed target = ask (nat_le needed (length target)) (says 10 needed Bits) ∷ []
+
+-- That of all bytes of a text.
 abbrev pub room : List ℕ → List ℕ → List Question
-room text target = ask (nat_le (length text) (length target)) (says 10 (length text) Bits) ∷ []
+room text target = space (length text) target
 
 -- A text was written to the front of a target, which held `old` and then holds `new`: k bytes, and the rest is as it was.
 pub record Written (text old new : List ℕ) (k : ℕ) : Type 0 where

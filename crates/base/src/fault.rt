@@ -1,8 +1,6 @@
 //! Refusals. A call that refuses says which question was answered no, and where.
 ghost use Rattle.std.specs.Prelude.{◌≡◌, Decides};
 ghost use Rattle.base.specs.Refusal.{said, said_alike, KnownByNumberAndPlace};
-ghost use Rattle.std.specs.Cmp.Rules.{comparing};
-ghost use Rattle.std.proofs.Common.{rules};
 
 /// The layer of the library that a question belongs to.
 #[derive(Clone, Copy, PartialEq, Eq, Debug)]
@@ -20,7 +18,7 @@ pub enum Layer {
 }
 
 /// A refusal: a case for each question, named by what is wrong, with its place.
-#[derive(Clone, Copy, Debug)]
+#[derive(Clone, Copy, Debug, PartialEq, Eq)]
 pub enum Fault {
     /// The field that begins at this bit is not there whole.
     FieldCut { bit: u32 },
@@ -131,38 +129,28 @@ impl Fault {
     pub fn layer(self) -> Layer
         ensures { result ≡ (said self).layer }
     {
-        match self.number() {
-            1 | 9 | 10 => Layer::Bits,
-            2..=5 => Layer::Card,
-            6..=8 | 11 => Layer::Graph,
-            12 | 13 => Layer::Order,
+        match self {
+            Fault::FieldCut { bit: _ }
+            | Fault::StrayBit { bit: _ }
+            | Fault::TargetShort { needed: _ } => Layer::Bits,
+            Fault::UnknownVersion { value: _ }
+            | Fault::JobsOutOfRange { value: _ }
+            | Fault::CrewsOutOfRange { value: _ }
+            | Fault::LayoverOutOfRange { value: _ } => Layer::Card,
+            Fault::TimeOutOfRange { job: _ }
+            | Fault::NoPredecessor { job: _ }
+            | Fault::NoSuccessor { job: _ }
+            | Fault::BoundAboveLayover { bound: _ } => Layer::Graph,
+            Fault::ListLength { jobs: _ } | Fault::ListEntry { position: _ } => Layer::Order,
             _ => Layer::Run,
         }
     }
 }
 
-/// Equality of refusals, by number and place.
-impl PartialEq for Fault {
-    ghost eq = { said_alike };
-
-    ghost laws = { Prim.search (comparing, rules) };
-
-    fn eq(&self, other: &Fault) -> bool
-        ensures value { result ≡ said_alike self.now other.now }
-        ensures same { Decides result (self.now ≡ other.now) }
-    {
-        self.number() == other.number() && self.place() == other.place()
-    }
-}
-
-/// Equality of refusals is reflexive.
-impl Eq for Fault {
-    ghost laws = { Prim.search (comparing, rules) };
-}
-
-/// Carries the law that a refusal is known by its number and its place.
-pub fn fault_laws() -> u8
-    ensures { KnownByNumberAndPlace }
-{
-    0
-}
+/// Carries the laws of refusals: one is known by its number and its place, and `==` decides by these two whether two
+/// refusals are the same.
+pub fn fault_laws()
+    ensures known { KnownByNumberAndPlace }
+    ensures equal { (f g : Fault) → ⟦<Fault as PartialEq>⟧.eq f g ≡ said_alike f g }
+    ensures same { (f g : Fault) → Decides (⟦<Fault as PartialEq>⟧.eq f g) (f ≡ g) }
+{}

@@ -2,15 +2,46 @@
 ghost use Rattle.std.specs.Prelude.{◌≡◌, ℕ, ◌+◌, ◌≤◌, true, false, not, ◌&&◌, ◌||◌, ◌∷◌, Decides, ◌==◌, ◌≢◌, nat_lt};
 ghost use Rattle.base.specs.JobSets.{has, members, size, Empty, Subset, Disjoint, Lowest};
 
-// Digit `at`, counted from the lowest.
-pub(crate) fn digit(word: u64, at: u8) -> bool
-    requires { at ≤ 63 }
-    ensures { result ≡ has word at }
-{
-    (word >> at) & 1 == 1
+// A digit of a word, counted from the lowest.
+#[derive(Clone, Copy)]
+pub(crate) struct Digit {
+    pub(crate) at: u8,
+    ghost within: { at ≤ 63 },
+}
+
+impl Digit {
+    // Whether the digit is 1.
+    #[tactic(auto, using(std::proofs::lemmas::Nat::Bits::shr_and_one), unfolding(crate::specs::JobSets::has))]
+    pub(crate) fn is_one(self, word: u64) -> bool
+        ensures { result ≡ has word self.at }
+    {
+        (word >> self.at) & 1 == 1
+    }
+
+    // The word with the digit, which is 0, made 1.
+    #[tactic(auto, using(crate::proofs::Digits::digits, crate::proofs::Members::set_more))]
+    pub(crate) fn set(self, word: u64) -> u64
+        requires { has word self.at ≡ false }
+        ensures digits { (u : ℕ) → has result u ≡ (has word u || (u == self.at && nat_lt u 64)) }
+        ensures more { size result ≡ size word + 1 }
+    {
+        word | (1 << self.at)
+    }
+
+    // The word with the digit, which is 1, made 0.
+    #[tactic(auto, using(crate::proofs::Digits::digits, crate::proofs::Members::cleared_fewer, crate::proofs::Members::cleared_first))]
+    pub(crate) fn clear(self, word: u64) -> u64
+        requires { has word self.at ≡ true }
+        ensures digits { (u : ℕ) → has result u ≡ (has word u && not (u == self.at)) }
+        ensures fewer { size word ≡ size result + 1 }
+        ensures first { Lowest word self.at → members word ≡ self.at ∷ members result }
+    {
+        word & !(1 << self.at)
+    }
 }
 
 // The word whose `n` lowest digits are 1.
+#[tactic(auto, using(crate::proofs::Digits::digits))]
 pub(crate) fn ones(n: u8) -> u64
     requires { n ≤ 64 }
     ensures { (u : ℕ) → has result u ≡ nat_lt u n }
@@ -18,28 +49,8 @@ pub(crate) fn ones(n: u8) -> u64
     if n == 64 { u64::MAX } else { (1 << n) - 1 }
 }
 
-// The word with digit `at`, which is 0, made 1.
-pub(crate) fn with(word: u64, at: u8) -> u64
-    requires there { at ≤ 63 }
-    requires zero { has word at ≡ false }
-    ensures digits { (u : ℕ) → has result u ≡ (has word u || (u == at && nat_lt u 64)) }
-    ensures more { size result ≡ size word + 1 }
-{
-    word | (1 << at)
-}
-
-// The word with digit `at`, which is 1, made 0.
-pub(crate) fn without(word: u64, at: u8) -> u64
-    requires there { at ≤ 63 }
-    requires one { has word at ≡ true }
-    ensures digits { (u : ℕ) → has result u ≡ (has word u && not (u == at)) }
-    ensures fewer { size word ≡ size result + 1 }
-    ensures first { Lowest word at → members word ≡ at ∷ members result }
-{
-    word & !(1 << at)
-}
-
 // The digits that are 1 in either word.
+#[tactic(auto, using(crate::proofs::Digits::digits, crate::proofs::Members::union_size))]
 pub(crate) fn or(a: u64, b: u64) -> u64
     ensures digits { (u : ℕ) → has result u ≡ (has a u || has b u) }
     ensures adds { Disjoint a b → size result ≡ size a + size b }
@@ -48,6 +59,7 @@ pub(crate) fn or(a: u64, b: u64) -> u64
 }
 
 // The digits that are 1 in both words.
+#[tactic(auto, using(crate::proofs::Digits::digits))]
 pub(crate) fn and(a: u64, b: u64) -> u64
     ensures { (u : ℕ) → has result u ≡ (has a u && has b u) }
 {
@@ -55,6 +67,7 @@ pub(crate) fn and(a: u64, b: u64) -> u64
 }
 
 // The digits that are 1 in `a` and 0 in `b`.
+#[tactic(auto, using(crate::proofs::Digits::digits))]
 pub(crate) fn and_not(a: u64, b: u64) -> u64
     ensures { (u : ℕ) → has result u ≡ (has a u && not (has b u)) }
 {
@@ -65,11 +78,13 @@ pub(crate) fn and_not(a: u64, b: u64) -> u64
 pub(crate) fn is_part(a: u64, b: u64) -> bool
     ensures part { Decides result (Subset a b) }
     ensures smaller { result ≡ true → size a ≤ size b }
+    ensures within { (u : ℕ) → has a u ≡ true → u ≤ 63 }
 {
     and_not(a, b) == 0
 }
 
 // How many digits are 1.
+#[tactic(auto, using(crate::proofs::Members::counted, crate::proofs::Members::none_counted))]
 pub(crate) fn count(word: u64) -> u8
     ensures value { result ≡ size word }
     ensures none { Decides (result == 0) (Empty word) }
@@ -78,6 +93,7 @@ pub(crate) fn count(word: u64) -> u8
 }
 
 // The lowest digit that is 1.
+#[tactic(auto, using(crate::proofs::Members::lowest_found))]
 pub(crate) fn lowest(word: u64) -> u8
     requires { size word ≢ 0 }
     ensures { Lowest word result }

@@ -1,13 +1,12 @@
 -- Bits that are packed into bytes, and back.
 use Rattle.std.proofs.Common.{◌≡◌, ℕ, zero, suc, ◌+◌, ◌-◌, ◌*◌, ◌/◌, ◌^◌, ◌<◌, ◌≤◌, false, List, [], ◌∷◌, ◌++◌, length, get_or, take, drop, replicate, sym, refl, ap, ◌∙◌, ap₂, inl, inr, pow-suc, add-one, arith, pow_mono}
-use Rattle.std.proofs.lemmas.List.{append_assoc, nil_from_length, replicate_more, replicate-append-replicate, length-append, length-replicate, length-take-le, length-drop, get_or_append_left, get_or-append_right, get_or_past, get_or-take, get_or-drop, take-append-drop, ext_get_or}
+use Rattle.std.proofs.lemmas.List.{append_assoc, nil_from_length, replicate_more, replicate-append-replicate, length-append, length-replicate, get_or-replicate, length-take-le, length-drop, get_or_append_left, get_or-append_right, get_or_past, get_or-take, get_or-drop, take-append-drop, ext_get_or}
 use Rattle.std.proofs.lemmas.Bool.{cases_lt, cases_eq, both_ways}
-use Rattle.base.proofs.Lists.{get_or_same}
 use Rattle.bits.specs.Fields.{field, bits_of, number}
 use Rattle.bits.specs.Laws.{BytesHoldBits}
 use Rattle.bits.specs.Bytes.{filled, packed, bytes_of}
 use Rattle.bits.specs.Trailing.{whole, at_fault}
-use Rattle.bits.proofs.Packing.{length-field, length-bits, get_or-field}
+use Rattle.bits.proofs.Packing.{length-field, length-bits, get_or-field, number-field}
 use Rattle.bits.proofs.Determining.{value_gives_bits, bits_give_bytes}
 use Rattle.bits.proofs.Straying.{quiet, absent, set_bit, too_many}
 
@@ -25,7 +24,10 @@ pub length_zeros : (k : ℕ) → length (replicate {A = ℕ} k 0) ≡ k
 length_zeros k = length-replicate k 0
 
 pub get_or-zeros : (k i : ℕ) → get_or (replicate {A = ℕ} k 0) i 0 ≡ 0
-get_or-zeros k i = get_or_same k i 0
+get_or-zeros k i = elim (cases_lt i k) [
+  | inl l ↦ get_or-replicate k i 0 0 l
+  | inr l ↦ get_or_past (replicate k 0) i 0 (let q = length_zeros k in omega arith)
+]
 
 -- ---- which lists are bits
 
@@ -87,7 +89,7 @@ bits_zero_bytes (suc k) =
 
 -- ---- packing
 
-number_small : (us : List ℕ) → Bits us → number us < 2 ^ length us
+pub number_small : (us : List ℕ) → Bits us → number us < 2 ^ length us
 unfolding number
 number_small [] h = omega arith
 number_small (u ∷ us) h =
@@ -170,6 +172,9 @@ filling_zero xs q h l = get_or-append_right xs (replicate (whole (length xs) - l
 
 pub filled_not_at_fault : (xs : List ℕ) (q : ℕ) → at_fault (filled xs) (length xs) q ≡ false
 filled_not_at_fault xs q = elim (cases_lt q (whole (length xs))) [
-  | inl l ↦ quiet (filled xs) (length xs) q (λ h. filling_zero xs q h l) l
+  | inl l ↦ quiet (filled xs) (length xs) q (λ h o. let z = filling_zero xs q h l in absurd (omega arith)) l
   | inr g ↦ absent (filled xs) (length xs) q (let e = length-filled xs in omega arith)
 ]
+
+-- the laws of fields
+pub ruleset field_laws = (number-field, value_gives_bits, bits_give_bytes, bytes_hold_bits)

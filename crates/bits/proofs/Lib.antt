@@ -1,6 +1,7 @@
 pub mod Determining
 pub mod Packing
-pub mod Flipping
+pub mod Setting
 pub mod Placing
+pub mod Reading
 pub mod Straying
 pub mod Filling

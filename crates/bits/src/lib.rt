@@ -2,8 +2,8 @@
 //! This crate answers bits and counts. What a format refuses, it says itself.
 #![tactic(auto)]
 
+mod bit;
+pub mod field;
 pub mod laws;
-pub mod read;
+pub mod number;
 pub mod tail;
-pub mod width;
-pub mod write;

@@ -3,7 +3,7 @@ ghost use Rattle.std.specs.Prelude.{◌≡◌, length, nat_le};
 ghost use Rattle.bits.specs.Fields.{bits_of};
 ghost use Rattle.bits.specs.Trailing.{First, at_fault};
 
-use crate::read::bit;
+use crate::bit::bit;
 
 /// The first bit at fault after fields that end before bit `at`: bits up to a whole byte are to be zero, and no byte is to follow.
 pub fn first_stray(bytes: &[u8], at: u32) -> Option<u64>
@@ -11,15 +11,10 @@ pub fn first_stray(bytes: &[u8], at: u32) -> Option<u64>
 {
     let start = at as usize;
     let end = start.div_ceil(8);
-    for p in start..end * 8 {
-        if bit(bytes, p) == 1 {
-            return Some(p as u64);
-        }
-    }
-    if bytes.len() > end {
-        return Some(end as u64 * 8);
-    }
-    None
+    let stray = (start..end * 8).find(|&p| bit(bytes, p));
+    let behind = (bytes.len() > end).then_some(end * 8);
+    // By `as`: there is no `From` of `usize`.
+    stray.or(behind).map(|p| p as u64)
 }
 
 /// Does the target hold this many bytes?

@@ -1,3 +1,2 @@
 pub mod Heads
 pub mod Ranging
-pub mod Stopping

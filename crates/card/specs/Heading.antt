@@ -1,14 +1,15 @@
 -- The head of a card, and the questions that reading it asks.
-use Rattle.std.specs.Prelude.{◌≡◌, ℕ, ◌+◌, ◌≤◌, Bool, ◌&&◌, List, [], ◌∷◌, ◌++◌, length, None, Result, nat_le}
+use Rattle.std.specs.Prelude.{◌≡◌, ℕ, ◌+◌, ◌≤◌, List, [], ◌∷◌, ◌++◌, length, take, None, Result, nat_le}
 use Rattle.base.specs.declared.fault.Fault.{Fault}
 use Rattle.base.specs.declared.fault.Layer.TheVariants.{Bits, Card}
-use Rattle.base.specs.Refusal.{says}
-use Rattle.base.specs.Questions.{Question, ask, first_no, Asks}
+use Rattle.base.specs.Refusal.{says, said}
+use Rattle.base.specs.Questions.{Question, ask, first_no, within, Asks}
 use Rattle.bits.specs.Fields.{field, value_at}
+use Rattle.bits.specs.Reading.{Got}
+use Rattle.graph.specs.Limits.{most}
+use Rattle.graph.specs.declared.limits.Limit.TheVariants.{Jobs, Crews, Layover}
 use Rattle.card.specs.declared.header.Header.{Header}
 use Rattle.card.specs.declared.read.Fields.{Fields}
-use Rattle.card.specs.declared.read.HeaderField.{HeaderField}
-use Rattle.card.specs.declared.read.HeaderField.TheVariants.{Version, Jobs, Crews, Layover}
 
 -- What the fields of the head hold, each from its first bit, over its width.
 abbrev pub jobs_of : List ℕ → ℕ
@@ -20,10 +21,6 @@ crews_of us = value_at us 11 5
 abbrev pub layover_of : List ℕ → ℕ
 layover_of us = value_at us 16 17
 
--- Does x lie from `least` to `most`?
-abbrev pub within : ℕ → ℕ → ℕ → Bool
-within least x most = nat_le least x && nat_le x most
-
 -- Question 1: is the field of w bits that begins at bit p there whole? The place is its first bit.
 abbrev pub there : List ℕ → ℕ → ℕ → Question
 there us p w = ask (nat_le (p + w) (length us)) (says 1 p Bits)
@@ -34,21 +31,23 @@ ranged us p w least most k = there us p w ∷ ask (within least (value_at us p w
 
 -- The questions of the head, in the sequence asked: the version is 1, and jobs, crews and layover are in range.
 unfoldable pub heading : List ℕ → List Question
-heading us = ranged us 0 4 1 1 2 ++ (ranged us 4 7 1 64 3 ++ (ranged us 11 5 1 16 4 ++ ranged us 16 17 1 92160 5))
-
--- The head says n jobs, m crews and a layover of d minutes.
-pub record Headed (us : List ℕ) (n m d : ℕ) : Type 0 where
-  pub jobs : n ≡ jobs_of us
-  pub crews : m ≡ crews_of us
-  pub layover : d ≡ layover_of us
-
--- What reading the head of a card with the bits us answers.
-abbrev pub ReadsHeader : List ℕ → Result Header Fault → Type 0
-ReadsHeader us r = Asks (heading us) (λ h. Headed us h.jobs h.crews h.layover) (Unit {0}) r
+heading us =
+    ranged us 0 4 1 1 2 ++ (ranged us 4 7 1 (most Jobs) 3 ++ (ranged us 11 5 1 (most Crews) 4 ++ ranged us 16 17 1 (most Layover) 5))
 
 -- The bits of the head of a card: version 1, n jobs, m crews, a layover of d minutes.
 unfoldable pub head : ℕ → ℕ → ℕ → List ℕ
 head n m d = field 4 1 ++ (field 7 n ++ (field 5 m ++ field 17 d))
+
+-- The head says n jobs, m crews and a layover of d minutes, and its bits are just those of the head that says so.
+pub record Headed (us : List ℕ) (n m d : ℕ) : Type 0 where
+  pub jobs : n ≡ jobs_of us
+  pub crews : m ≡ crews_of us
+  pub layover : d ≡ layover_of us
+  pub bits : take 33 us ≡ head n m d
+
+-- What reading the head of a card with the bits us answers.
+abbrev pub ReadsHeader : List ℕ → Result Header Fault → Type 0
+ReadsHeader us r = Asks (heading us) (λ h. Headed us h.jobs h.crews h.layover) (Unit {0}) r
 
 -- n, m and d are in range.
 pub record Ranges (n m d : ℕ) : Type 0 where
@@ -64,26 +63,30 @@ pub record Ranges (n m d : ℕ) : Type 0 where
 abbrev pub HeadReadsBack : Type 0
 HeadReadsBack = (n m d : ℕ) (rest : List ℕ) → Ranges n m d → (first_no (heading (head n m d ++ rest)) ≡ None) × Headed (head n m d ++ rest) n m d
 
--- For the function that reads one field: the number of the question of its range, and what it answers.
-abbrev pub question : HeaderField → ℕ
-question Version = 2
-question Jobs = 3
-question Crews = 4
-question Layover = 5
+-- What reading a field of w bits at bit p answers, as a number: question 1 alone is asked.
+abbrev pub ReadsWhole : {T : Type 0} → (T → ℕ) → List ℕ → ℕ → ℕ → Result T Fault → Type 0
+ReadsWhole number us p w r = Asks (there us p w ∷ []) (λ x. Got us p w (number x)) (Unit {0}) r
 
-pub record InRange (value least most x : ℕ) : Type 0 where
-  pub is : x ≡ value
+-- For the function that reads a field of the head. The field was read as x, which is in range.
+pub record GotInRange (us : List ℕ) (p w least most x : ℕ) : Type 0 where
+  pub got : Got us p w x
   pub low : least ≤ x
   pub high : x ≤ most
 
-abbrev pub ReadsField : List ℕ → ℕ → ℕ → ℕ → ℕ → HeaderField → Result ℕ Fault → Type 0
-ReadsField us p w least most which r = Asks (ranged us p w least most (question which)) (λ x. InRange (value_at us p w) least most x) (Unit {0}) r
+-- A field that is to hold 1 to `most`: whatever question k its refusals answer, that question is asked.
+pub record ReadsUpTo {T : Type 0} (number : T → ℕ) (refuses : T → Fault → Type 0) (us : List ℕ) (p w most : ℕ) (r : Result T Fault) : Type 0 where
+  pub answers : (k : ℕ) → ((x : T) (f : Fault) → refuses x f → said f ≡ says k (number x) Card) → Asks (ranged us p w 1 most k) (λ x. GotInRange us p w 1 most (number x)) (Unit {0}) r
+
+-- The same where question k is known.
+abbrev pub ReadsField : List ℕ → ℕ → ℕ → ℕ → ℕ → Result ℕ Fault → Type 0
+ReadsField us p w most k r = Asks (ranged us p w 1 most k) (GotInRange us p w 1 most) (Unit {0}) r
 
 -- For the function that reads the four fields: each holds its value, in range.
 pub record Ranged (us : List ℕ) (fields : Fields) : Type 0 where
-  pub jobs : InRange (jobs_of us) 1 64 fields.jobs
-  pub crews : InRange (crews_of us) 1 16 fields.crews
-  pub layover : InRange (layover_of us) 1 92160 fields.layover
+  pub version : GotInRange us 0 4 1 1 1
+  pub jobs : GotInRange us 4 7 1 64 fields.jobs
+  pub crews : GotInRange us 11 5 1 16 fields.crews
+  pub layover : GotInRange us 16 17 1 92160 fields.layover
 
 abbrev pub ReadsFields : List ℕ → Result Fields Fault → Type 0
 ReadsFields us r = Asks (heading us) (Ranged us) (Unit {0}) r

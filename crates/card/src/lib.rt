@@ -1,5 +1,6 @@
-//! The work card: a graph of jobs, packed into bits.
+//! The head of a work card, and how a field of a card is read.
 #![tactic(auto)]
 
 pub mod header;
+pub mod layout;
 pub mod read;

@@ -1,7 +1,6 @@
 //! What `plan` answers to cards, whole or cut, at the edges of the head's ranges.
 use base::fault::Fault;
-use bits::width::Width;
-use bits::write::write;
+use bits::field::Field;
 use planner::answer::{Answer, answer_card};
 use std::process::Abort;
 use std::test::Fail;
@@ -9,10 +8,10 @@ use std::test::Fail;
 // The head of a card, with zeros up to a whole byte.
 fn head(version: u64, jobs: u64, crews: u64, layover: u64) -> [u8; 5] {
     let mut card = [0; 5];
-    write(&mut card, 0, Width { bits: 4 }, version);
-    write(&mut card, 4, Width { bits: 7 }, jobs);
-    write(&mut card, 11, Width { bits: 5 }, crews);
-    write(&mut card, 16, Width { bits: 17 }, layover);
+    Field::<63> { at: 0, bits: 4 }.write(&mut card, version);
+    Field::<63> { at: 4, bits: 7 }.write(&mut card, jobs);
+    Field::<63> { at: 11, bits: 5 }.write(&mut card, crews);
+    Field::<63> { at: 16, bits: 17 }.write(&mut card, layover);
     card
 }
 
@@ -99,13 +98,13 @@ fn a_target_too_short(rt: HostRuntime) {
     let card = head(1, 6, 2, 18);
     let mut text = [7; 19];
     assert_eq!(rt;
-        answer_card(&card, &mut text).err(),
-        Some(Fault::TargetShort { needed: 20 })
+        answer_card(&card, &mut text),
+        Err(Fault::TargetShort { needed: 20 })
     );
     assert!(rt; text == [7; 19]);
     assert_eq!(rt;
-        answer_card(&[], &mut text[0..11]).err(),
-        Some(Fault::TargetShort { needed: 12 })
+        answer_card(&[], &mut text[0..11]),
+        Err(Fault::TargetShort { needed: 12 })
     );
     assert!(rt; text == [7; 19]);
 }

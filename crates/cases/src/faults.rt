@@ -81,10 +81,10 @@ fn the_longest_line(rt: HostRuntime) {
     let fault = Fault::NumbersSpent { next: u32::MAX };
     let mut text = [7; 22];
     assert_eq!(rt;
-        write_refusal(fault, &mut text[0..21]).err(),
-        Some(Fault::TargetShort { needed: 22 })
+        write_refusal(fault, &mut text[0..21]),
+        Err(Fault::TargetShort { needed: 22 })
     );
     assert!(rt; text == [7; 22]);
-    assert_eq!(rt; write_refusal(fault, &mut text).ok(), Some(22));
+    assert_eq!(rt; write_refusal(fault, &mut text), Ok(22));
     assert!(rt; &text[0..22] == b"refused 17 4294967295\n".as_slice());
 }

@@ -1,6 +1,6 @@
 -- Laws of `any_below`: a test that one of the numbers below a limit passes.
 use Rattle.std.proofs.Common.{◌≡◌, ℕ, zero, suc, ◌+◌, ◌<◌, Bool, true, false, ◌||◌, refl, ap₂, inl, inr, add-one, arith}
-use Rattle.std.proofs.lemmas.Bool.{cases_lt, both_ways, or_cases, or_parts, or_from, or_left, or_right}
+use Rattle.std.proofs.lemmas.Bool.{cases_lt, both_ways, or_cases, or_parts, or_from}
 use Rattle.graph.specs.Rules.{any_below}
 
 pub any_none : (test : ℕ → Bool) → any_below test 0 ≡ false
@@ -11,16 +11,7 @@ pub any_more : (test : ℕ → Bool) (n : ℕ) → any_below test (n + 1) ≡ (a
 unfolding any_below
 any_more test n = rw (add-one n)
 
--- one passes
-pub any_found : (test : ℕ → Bool) (n v : ℕ) → v < n → test v ≡ true → any_below test n ≡ true
-unfolding any_below
-any_found test zero v l h = absurd (omega arith)
-any_found test (suc n) v l h = elim (cases_lt v n) [
-  | inl g ↦ or_left (any_below test n) (test n) (any_found test n v g h)
-  | inr g ↦ let e : v ≡ n = omega arith in or_right (any_below test n) (test n) (rw e at h)
-]
-
--- and which
+-- one passes, and which
 pub any_which : (test : ℕ → Bool) (n : ℕ) → any_below test n ≡ true → (v : ℕ) × (v < n) × (test v ≡ true)
 unfolding any_below
 any_which test zero h = absurd (both_ways false refl h)

@@ -1,19 +1,17 @@
 -- A draft about which all questions hold keeps the rules, and so does the smallest graph.
-use Rattle.std.proofs.Common.{◌≡◌, ℕ, ◌+◌, ◌-◌, ◌<◌, ◌≤◌, true, cond, not, ◌||◌, eqb, ltb, leb, ◌⊎◌, List, length, get_or, set, replicate, None, sym, refl, ap, ◌∙◌, subst, inl, inr, arith}
-use Rattle.std.proofs.lemmas.List.{get_or-set_other, get_or-set_same, length-set, length-replicate, get_or-replicate, get_or_past}
-use Rattle.std.proofs.lemmas.Bool.{cases_lt, cases_eq, both_ways, and_parts, or_cases, leb-true, eqb-true, lt-ltb, le-ltb}
-use Rattle.base.specs.declared.fault.Layer.TheVariants.{Card, Graph as GraphLayer}
+use Rattle.std.proofs.Common.{◌≡◌, ℕ, ◌+◌, ◌-◌, ◌<◌, ◌≤◌, true, ◌⊎◌, get_or, set, replicate, None, sym, refl, ap, ◌∙◌, subst, inl, inr, arith}
+use Rattle.std.proofs.lemmas.List.{get_or-set_other}
+use Rattle.std.proofs.lemmas.Bool.{cases_lt, both_ways}
+use Rattle.std.proofs.lemmas.Bool.Decides.{nat_tests}
 use Rattle.base.specs.declared.job_set.JobSet.{JobSet}
 use Rattle.base.specs.JobSets.{has, size}
-use Rattle.base.specs.Refusal.{says}
-use Rattle.base.specs.Questions.{ask, first_no}
-use Rattle.base.proofs.Asking.{held, passed, both_held, bounds, asked_held}
+use Rattle.base.specs.Questions.{first_no}
+use Rattle.base.proofs.Asking.{held, both_held, asked_held}
 use Rattle.base.proofs.Digits.{has-zero}
 use Rattle.base.proofs.Lists.{get_or_same}
 use Rattle.graph.specs.declared.draft.Draft.{Draft}
-use Rattle.graph.specs.Limits.{jobs_allowed, crews_allowed, time_allowed}
 use Rattle.graph.specs.Rules.{none, time_at, preds_at, precedes, has_succ, Lawful}
-use Rattle.graph.specs.Making.{sizes_asked, reaches, job_asked, jobs_asked, succ_asked, succs_asked, making, LowerBelow, Cleared}
+use Rattle.graph.specs.Making.{sizes_asked, job_asked, jobs_asked, succ_asked, succs_asked, making, LowerBelow, Cleared}
 use Rattle.graph.proofs.Below.{any_same}
 
 pub record Sizes (n m d : ℕ) : Type 0 where
@@ -25,29 +23,12 @@ pub record Sizes (n m d : ℕ) : Type 0 where
   pub short_layover : d ≤ 92160
 
 pub sizes_kept : (n m d : ℕ) → first_no (sizes_asked n m d) ≡ None → Sizes n m d
-unfolding sizes_asked
-sizes_kept n m d e =
-    let a = held _ _ e in
-    let e' = sym (passed (ask (jobs_allowed n) (says 3 n Card)) _ a) ∙ e in
-    let b = held _ _ e' in
-    let e'' = sym (passed (ask (crews_allowed m) (says 4 m Card)) _ b) ∙ e' in
-    let c = held _ _ e'' in
-    let p = bounds 1 n 64 a in
-    let q = bounds 1 m 16 b in
-    let r = bounds 1 d 92160 c in
-    record { some_jobs = p.0; few_jobs = p.1; some_crews = q.0; few_crews = q.1; some_layover = r.0; short_layover = r.1 }
+unfolding sizes_asked first_no
+sizes_kept n m d e = grind (arith, nat_tests)
 
 pub job_kept : (t s v : ℕ) → first_no (job_asked t s v) ≡ None → ((1 ≤ t) × (t ≤ 1440)) × ((v ≡ 0) ⊎ (1 ≤ size s))
-unfolding job_asked
-job_kept t s v e =
-    let a = held _ _ e in
-    let b = held _ _ (sym (passed (ask (time_allowed t) (says 6 v GraphLayer)) _ a) ∙ e) in (
-      bounds 1 t 1440 a,
-      elim (or_cases (eqb v 0) (leb 1 (size s)) (and_parts (not (reaches s v)) (eqb v 0 || leb 1 (size s)) b).1) [
-        | inl z ↦ inl (eqb-true v 0 z)
-        | inr l ↦ inr (leb-true 1 (size s) l)
-      ],
-    )
+unfolding job_asked first_no
+job_kept t s v e = grind (arith, nat_tests)
 
 -- all questions about a draft, by their kind
 pub kinds : (d : Draft) → first_no (making d) ≡ None → (first_no (sizes_asked d.jobs d.crews d.layover) ≡ None) × (first_no (jobs_asked d.times d.preds d.jobs) ≡ None) × (first_no (succs_asked (precedes d.preds) d.jobs) ≡ None)
@@ -62,16 +43,16 @@ module _ (d e : Draft) (all : first_no (making d) ≡ None) (low : LowerBelow d.
   sizes = sizes_kept d.jobs d.crews d.layover (kinds d all).0
 
   time_in : (v : ℕ) → v < d.jobs → time_at e.times v ≡ time_at d.times v
-  time_in v l = is.times v ∙ rw (lt-ltb v d.jobs l)
+  time_in v l = grind (arith, nat_tests, is.times v)
 
   time_out : (v : ℕ) → d.jobs ≤ v → time_at e.times v ≡ 0
-  time_out v l = is.times v ∙ rw (le-ltb v d.jobs l)
+  time_out v l = grind (arith, nat_tests, is.times v)
 
   preds_in : (v : ℕ) → v < d.jobs → preds_at e.preds v ≡ preds_at d.preds v
-  preds_in v l = is.preds v ∙ rw (lt-ltb v d.jobs l)
+  preds_in v l = grind (arith, nat_tests, is.preds v)
 
   preds_out : (v : ℕ) → d.jobs ≤ v → preds_at e.preds v ≡ 0
-  preds_out v l = is.preds v ∙ rw (le-ltb v d.jobs l)
+  preds_out v l = grind (arith, nat_tests, is.preds v)
 
   job : (v : ℕ) → v < d.jobs → ((1 ≤ time_at d.times v) × (time_at d.times v ≤ 1440)) × ((v ≡ 0) ⊎ (1 ≤ size (preds_at d.preds v)))
   job v l = job_kept (time_at d.times v) (preds_at d.preds v) v (asked_held _ d.jobs v (kinds d all).1 l)
@@ -106,51 +87,12 @@ module _ (d e : Draft) (all : first_no (making d) ≡ None) (low : LowerBelow d.
         unpreceded = preds_out;
       }
 
--- ---- clearing a draft, one job after the other
-
-pub record Front (d : Draft) (n : ℕ) (ts : List ℕ) (ps : List JobSet) : Type 0 where
-  pub all_times : length ts ≡ 64
-  pub all_preds : length ps ≡ 64
-  pub times : (v : ℕ) → time_at ts v ≡ cond (ltb v n) (time_at d.times v) 0
-  pub preds : (v : ℕ) → preds_at ps v ≡ cond (ltb v n) (preds_at d.preds v) 0
-
-no_preds : (s : JobSet) → s.bits ≡ 0 → (v : ℕ) → preds_at (replicate 64 s) v ≡ 0
-no_preds s z v = elim (cases_lt v 64) [
-  | inl l ↦ ap (λ (t : JobSet). t.bits) (get_or-replicate 64 v s none l) ∙ z
-  | inr g ↦ ap (λ (t : JobSet). t.bits) (get_or_past (replicate 64 s) v none (let e = length-replicate 64 s in omega arith))
-]
-
-pub front_none : (d : Draft) (s : JobSet) → s.bits ≡ 0 → Front d 0 (replicate 64 0) (replicate 64 s)
-front_none d s z = record {
-  all_times = refl;
-  all_preds = refl;
-  times = λ v. get_or_same 64 v 0 ∙ sym (rw (le-ltb v 0 (omega arith)));
-  preds = λ v. no_preds s z v ∙ sym (rw (le-ltb v 0 (omega arith)));
-}
-
-pub front_more : (d : Draft) (n : ℕ) (ts : List ℕ) (ps : List JobSet) → n < 64 → Front d n ts ps → Front d (n + 1) (set ts n (time_at d.times n)) (set ps n (get_or d.preds n none))
-front_more d n ts ps l f = record {
-  all_times = length-set ts n (time_at d.times n) ∙ f.all_times;
-  all_preds = length-set ps n (get_or d.preds n none) ∙ f.all_preds;
-  times = λ v. elim (cases_eq v n) [
-    | inl e ↦ rw (e, lt-ltb n (n + 1) (omega arith)) (get_or-set_same ts n (time_at d.times n) 0 (let q = f.all_times in omega arith))
-    | inr g ↦ get_or-set_other ts n v (time_at d.times n) 0 g ∙ f.times v ∙ ap (λ b. cond b (time_at d.times v) 0) (same v g)
-  ];
-  preds = λ v. elim (cases_eq v n) [
-    | inl e ↦ rw (e, lt-ltb n (n + 1) (omega arith)) (ap (λ (t : JobSet). t.bits) (get_or-set_same ps n (get_or d.preds n none) none (let q = f.all_preds in omega arith)))
-    | inr g ↦ ap (λ (t : JobSet). t.bits) (get_or-set_other ps n v (get_or d.preds n none) none g) ∙ f.preds v ∙ ap (λ b. cond b (preds_at d.preds v) 0) (same v g)
-  ];
-}
-  where
-    same : (v : ℕ) → (v ≡ n → ⊥) → ltb v n ≡ ltb v (n + 1)
-    same v g = elim (cases_lt v n) [
-      | inl h ↦ lt-ltb v n h ∙ sym (lt-ltb v (n + 1) (omega arith))
-      | inr h ↦ le-ltb v n h ∙ sym (le-ltb v (n + 1) (omega arith))
-    ]
-
 -- ---- a graph of one job
 
-pub single_lawful : (t : ℕ) → 1 ≤ t → t ≤ 1440 → (s : JobSet) → s.bits ≡ 0 → Lawful 1 1 1 (set (replicate 64 0) 0 t) (replicate 64 s)
+no_preds : (s : JobSet) → s ≡ 0 → (v : ℕ) → preds_at (replicate 64 s) v ≡ 0
+no_preds s z v = let P : JobSet → Type 0 = λ x. preds_at (replicate 64 x) v ≡ 0 in subst P (sym z) (get_or_same 64 v none)
+
+pub single_lawful : (t : ℕ) → 1 ≤ t → t ≤ 1440 → (s : JobSet) → s ≡ 0 → Lawful 1 1 1 (set (replicate 64 0) 0 t) (replicate 64 s)
 single_lawful t low high s z = record {
   all_times = refl;
   all_preds = refl;

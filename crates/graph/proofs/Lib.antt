@@ -2,6 +2,6 @@ pub mod Below
 pub mod Asked
 pub mod Keeping
 pub mod Stopping
-pub mod Following
 pub mod Ruling
 pub mod Same
+pub mod Gathered

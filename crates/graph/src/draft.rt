@@ -10,6 +10,7 @@ pub struct Draft {
     pub crews: u8,
     /// How many minutes the train stands.
     pub layover: u32,
+    // Two arrays, as in `Graph`: a rule of the project.
     /// The longest time of each job, in minutes. Those from `jobs` up are not looked at.
     pub times: [u16; 64],
     /// The predecessors of each job. Those from `jobs` up are not looked at.

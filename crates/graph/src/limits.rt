@@ -1,31 +1,53 @@
 //! The limits of a work graph. Whoever reads or makes one asks here.
-ghost use Rattle.std.specs.Prelude.{◌≡◌};
-ghost use Rattle.graph.specs.Limits.{jobs_allowed, crews_allowed, layover_allowed, time_allowed};
+ghost use Rattle.std.specs.Prelude.{◌≡◌, true};
+ghost use Rattle.base.specs.Questions.{Asks};
 
-/// Whether there may be so many jobs: 1 to 64.
-pub fn allows_jobs(jobs: u32) -> bool
-    ensures { result ≡ jobs_allowed jobs }
-{
-    jobs >= 1 && jobs <= 64
+use base::fault::Fault;
+
+/// A number of a work graph that has a limit: it is 1 at the least.
+#[derive(Clone, Copy, Debug, PartialEq, Eq)]
+pub enum Limit {
+    /// How many jobs there are, at most 64.
+    Jobs,
+    /// How many crews there are, at most 16.
+    Crews,
+    /// How many minutes the train stands, at most 92,160.
+    Layover,
+    /// The longest time of a job in minutes, at most 1,440.
+    Time,
 }
 
-/// Whether there may be so many crews: 1 to 16.
-pub fn allows_crews(crews: u32) -> bool
-    ensures { result ≡ crews_allowed crews }
-{
-    crews >= 1 && crews <= 16
-}
+impl Limit {
+    ghost use Rattle.graph.specs.Limits.{most, allowed, limit_asked};
 
-/// Whether the train may stand for so many minutes: 1 to 92,160.
-pub fn allows_layover(minutes: u32) -> bool
-    ensures { result ≡ layover_allowed minutes }
-{
-    minutes >= 1 && minutes <= 92_160
-}
+    /// The greatest number that is allowed.
+    pub fn most(self) -> u32
+        ensures { result ≡ most self }
+    {
+        match self {
+            Limit::Jobs => 64,
+            Limit::Crews => 16,
+            Limit::Layover => 92_160,
+            Limit::Time => 1440,
+        }
+    }
 
-/// Whether a job may have this longest time: 1 to 1,440 minutes.
-pub fn allows_time(minutes: u32) -> bool
-    ensures { result ≡ time_allowed minutes }
-{
-    minutes >= 1 && minutes <= 1440
+    /// Whether the number may be this one.
+    pub fn allows(self, number: u32) -> bool
+        ensures { result ≡ allowed self number }
+    {
+        (1..=self.most()).contains(&number)
+    }
+
+    /// Asks whether the number may be this one, and refuses it with the given refusal where not.
+    #[tactic(auto, unfolding(base::specs::Questions::first_no))]
+    pub fn ask(self, number: u32, refusal: Fault) -> Result<(), Fault>
+        ensures { Asks (limit_asked self number refusal) (λ _. allowed self number ≡ true) (Unit {0}) result }
+    {
+        if self.allows(number) {
+            Ok(())
+        } else {
+            Err(refusal)
+        }
+    }
 }

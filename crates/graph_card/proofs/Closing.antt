@@ -1,9 +1,10 @@
 -- The last question: what stands behind the fields.
-use Rattle.std.proofs.Common.{◌≡◌, ℕ, ◌<◌, ◌≤◌, true, false, not, ◌&&◌, ◌||◌, eqb, ltb, leb, List, [], length, get_or, take, Some, None, ap, ◌∙◌, inl, inr, arith}
+use Rattle.std.proofs.Common.{◌≡◌, ℕ, ◌^◌, ◌<◌, ◌≤◌, true, false, not, ◌&&◌, ◌||◌, eqb, ltb, leb, List, [], length, get_or, take, Some, None, ap, ◌∙◌, inl, inr, arith}
 use Rattle.std.proofs.lemmas.Bool.{cases_lt, both_ways, and_parts, ltb-true, not_from_true, not_from_false}
+use Rattle.base.specs.declared.fault.Fault.TheVariants.{StrayBit}
 use Rattle.base.specs.declared.fault.Layer.TheVariants.{Bits}
 use Rattle.base.specs.Refusal.{says}
-use Rattle.base.specs.Questions.{ask, first_no, Taken}
+use Rattle.base.specs.Questions.{ask, first_no, Taken, Refused}
 use Rattle.base.proofs.Asking.{passed, failed, nothing_asked, asked_all, asked_stops}
 use Rattle.bits.specs.Bytes.{bytes_of}
 use Rattle.bits.specs.Fields.{bits_of}
@@ -16,6 +17,7 @@ use Rattle.graph_card.specs.Layout.{start}
 use Rattle.graph_card.specs.Asking.{bit_asked, filling, questions}
 use Rattle.graph_card.specs.Cards.{card}
 use Rattle.graph_card.specs.Parts.{Unfilled}
+use Rattle.graph_card.proofs.Spacing.{start_range}
 
 module _ (us : List ℕ) (p : ℕ) where
   fine : (q : ℕ) → at_fault us p q ≡ false → first_no (bit_asked us p q) ≡ None
@@ -53,3 +55,12 @@ all_read bs g small u h =
       all_hold = u.left ∙ nothing_behind us p h;
       does = bytes_from_bits bs (take p us) small (bits_take p us (bits_bytes bs)) (none_at_fault bs p (omega arith) h) ∙ ap bytes_of u.same_bits;
     }
+
+-- a bit at fault is refused, and its number is small
+pub stray : (bs : List ℕ) (g : Graph) (q : ℕ) → Unfilled bs g → FirstPassing (at_fault (bits_of bs) (start g.jobs)) q → Refused (questions (bits_of bs)) (StrayBit q) (Unit {0})
+stray bs g q u f = record { fails = u.left ∙ first_behind (bits_of bs) (start g.jobs) q f; keeps = tt }
+
+pub near : (bs : List ℕ) (g : Graph) (q : ℕ) → FirstPassing (at_fault (bits_of bs) (start g.jobs)) q → q < 2 ^ 32
+near bs g q f = let late = not_late (bits_of bs) (start g.jobs) q f in let high = (start_range g.jobs g.few_jobs).1 in omega arith
+
+pub ruleset to_the_end = (stray, near, all_read)

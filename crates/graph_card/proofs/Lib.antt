@@ -1,5 +1,4 @@
 pub mod Ranging
-pub mod Stopping
 pub mod Marking
 pub mod Spacing
 pub mod Rowing

@@ -1,24 +1,21 @@
 -- Predecessor fields: their bits, and the numbers that they write.
-use Rattle.std.proofs.Common.{◌≡◌, ℕ, zero, suc, ◌+◌, ◌-◌, ◌*◌, ◌/◌, ◌%◌, ◌^◌, ◌<◌, ◌≤◌, Bool, true, false, cond, ◌&&◌, ◌||◌, eqb, ltb, List, [], ◌∷◌, ◌++◌, length, get_or, sym, refl, ap, ◌∙◌, inl, inr, pow-suc, div-one, add-one, arith}
-use Rattle.std.proofs.lemmas.Nat.{shr-shr, pow_pos}
-use Rattle.std.proofs.lemmas.List.{length_push, get_or_append_left, get_or_push, get_or_past}
-use Rattle.std.proofs.lemmas.Bool.{cases_lt, cases_Bool, both_ways, or_right, or_cases, and_from, and_parts, lt-ltb, eq-eqb, ne_eqb, eqb-true}
-use Rattle.base.specs.JobSets.{has, size, Empty}
+use Rattle.std.proofs.Common.{◌≡◌, ℕ, zero, suc, ◌+◌, ◌-◌, ◌/◌, ◌%◌, ◌^◌, ◌<◌, ◌≤◌, Bool, true, false, cond, ◌&&◌, eqb, ltb, [], ◌∷◌, ◌++◌, length, get_or, take, fold, sym, refl, ap, ◌∙◌, inl, inr, add-one, arith}
+use lib.Bits.{bit_and}
+use Rattle.std.proofs.lemmas.Nat.{and_mask, pow_pos}
+use Rattle.std.proofs.lemmas.List.{length_push, get_or_append_left, get_or_push, get_or_past, take_all, take-append-le, ext_get_or}
+use Rattle.std.proofs.lemmas.Bool.{cases_lt, cases_Bool, lt-ltb}
+use Rattle.base.specs.JobSets.{has, size}
 use Rattle.base.proofs.Digits.{has-zero}
 use Rattle.base.proofs.Members.{bare_from_size}
+use Rattle.std.specs.List.{range_with_len}
 use Rattle.bits.specs.Fields.{field, number}
-use Rattle.bits.proofs.Packing.{field_more, field_last, field_none, number-field}
-use Rattle.graph.specs.Making.{AllBelow}
+use Rattle.bits.proofs.Reading.{got, takes_in, taken_in}
+use Rattle.bits.proofs.Packing.{length-field, get_or-field, number-field}
 use Rattle.graph_card.specs.Layout.{marks}
-use Rattle.graph_card.specs.Parts.{PrecededBy}
 
 pub marks_none : (s : ℕ) → marks s 0 ≡ []
 unfolding marks
 marks_none s = refl
-
-pub marks_more : (s v : ℕ) → marks s (v + 1) ≡ marks s v ++ cond (has s v) 1 0 ∷ []
-unfolding marks
-marks_more s v = rw (add-one v)
 
 pub length-marks : (s v : ℕ) → length (marks s v) ≡ v
 unfolding marks
@@ -51,73 +48,49 @@ marks_small s v u = elim (cases_lt u v) [
 
 -- ---- from the set to the number, bit by bit
 
-pub record Numbered (s u x : ℕ) : Type 0 where
-  pub bits : field u x ≡ marks s u
-  pub small : x < 2 ^ u
+-- the marks of the first jobs
+pub marks_front : (s v n : ℕ) → v ≤ n → take v (marks s n) ≡ marks s v
+unfolding marks
+marks_front s zero zero l = refl
+marks_front s (suc v) zero l = absurd (omega arith)
+marks_front s v (suc n) l = elim (cases_lt n v) [
+  | inl h ↦ let e : v ≡ suc n = omega arith in rw e (take_all (suc n) (marks s (suc n)) (omega (arith, length-marks s (suc n))))
+  | inr h ↦ take-append-le v (marks s n) (cond (has s n) 1 0 ∷ []) (omega (arith, length-marks s n)) ∙ marks_front s v n h
+]
 
-pub numbered_none : (s : ℕ) → Numbered s 0 0
-numbered_none s = record { bits = field_none 0 ∙ sym (marks_none s); small = omega arith }
+-- a mark, as a test
+pub mark_bit : (b : Bool) → eqb (cond b 1 0) 1 ≡ b
+mark_bit true = refl
+mark_bit false = refl
 
-pub numbered_more : (s u x b : ℕ) → b ≡ cond (has s u) 1 0 → Numbered s u x → Numbered s (u + 1) (x * 2 + b)
-numbered_more s u x b e n =
-    let two : b < 2 = rw e (go (has s u)) in
-    let p : 2 ^ (u + 1) ≡ 2 ^ u * 2 = rw (add-one u) (pow-suc 2 u) in
-    let l = n.small in
-    record { bits = field_more u x b two ∙ ap (λ ys. ys ++ b ∷ []) n.bits ∙ ap (λ y. marks s u ++ y ∷ []) e ∙ sym (marks_more s u); small = omega arith }
-  where
-    go : (d : Bool) → cond {A = ℕ} d 1 0 < 2
-    go true = omega arith
-    go false = omega arith
+-- a mark is the bit that the set holds
+pub mark_is : (s u : ℕ) → (has s u ≡ true → u ≤ 63) → eqb (get_or (marks s 64) u 0) 1 ≡ has s u
+mark_is s u few = elim (cases_lt u 64) [
+  | inl l ↦ rw (get_or-marks s 64 u l) (mark_bit (has s u))
+  | inr l ↦ rw (get_or_past (marks s 64) u 0 (omega (arith, length-marks s 64))) (elim (cases_Bool (has s u)) [ inl t ↦ absurd (let q = few t in omega arith) | inr f ↦ sym f ])
+]
+
+-- taking in one mark after the other
+pub numbered : (s v : ℕ) → v ≤ 63 → (field v (fold (takes_in (marks s 64)) 0 (range_with_len 0 v)) ≡ marks s v) × (fold (takes_in (marks s 64)) 0 (range_with_len 0 v) < 2 ^ v)
+numbered s v few =
+    let long = length-marks s 64 in
+    let g = got (marks s 64) 0 v (marks_small s 64) (omega arith) in
+    rw (taken_in (marks s 64) (marks_small s 64) 0 v (omega arith) few) (sym g.same_bits ∙ marks_front s v 64 (omega arith), g.small)
 
 -- ---- from the number to the set
 
--- the set s has those of the first u jobs that the first u bits of a field of v bits mark, which holds x
-pub record Mirrored (x v s u : ℕ) : Type 0 where
-  pub bits : field u (x / 2 ^ (v - u)) ≡ marks s u
-  pub lower : AllBelow s u
-
-pub mirrored_none : (x v s : ℕ) → Empty s → Mirrored x v s 0
-mirrored_none x v s h = record { bits = field_none (x / 2 ^ (v - 0)) ∙ sym (marks_none s); lower = λ j m. absurd (both_ways (has s j) (h j) m) }
-
-next_bit : (x v u : ℕ) → u < v → field (u + 1) (x / 2 ^ (v - (u + 1))) ≡ field u (x / 2 ^ (v - u)) ++ x / 2 ^ (v - 1 - u) % 2 ∷ []
-next_bit x v u l =
-    let e : v - (u + 1) ≡ v - 1 - u = omega arith in
-    let q : v - 1 - u + 1 ≡ v - u = omega arith in
-    rw e (field_last u (x / 2 ^ (v - 1 - u)) ∙ ap (λ y. field u y ++ x / 2 ^ (v - 1 - u) % 2 ∷ []) (shr-shr x (v - 1 - u) 1 ∙ ap (λ j. x / 2 ^ j) q))
-
-module _ (x v s u : ℕ) (l : u < v) (m : Mirrored x v s u) where
-  pub mirrored_out : x / 2 ^ (v - 1 - u) % 2 ≡ 0 → Mirrored x v s (u + 1)
-  mirrored_out z =
-      let f : has s u ≡ false = elim (cases_Bool (has s u)) [ inl t ↦ absurd (let q = m.lower u t in omega arith) | inr f ↦ f ] in
-      record {
-        bits = next_bit x v u l ∙ ap (λ ys. ys ++ x / 2 ^ (v - 1 - u) % 2 ∷ []) m.bits ∙ ap (λ b. marks s u ++ b ∷ []) (z ∙ ap (λ d. cond d 1 0) (sym f)) ∙ sym (marks_more s u);
-        lower = λ j h. let q = m.lower j h in omega arith;
-      }
-
-  pub mirrored_in : (t : ℕ) → u < 64 → x / 2 ^ (v - 1 - u) % 2 ≡ 1 → ((j : ℕ) → has t j ≡ (has s j || (eqb j u && ltb j 64))) → Mirrored x v t (u + 1)
-  mirrored_in t few one is =
-      let here : has t u ≡ true = is u ∙ or_right (has s u) (eqb u u && ltb u 64) (and_from (eqb u u) (ltb u 64) (eq-eqb u u refl) (lt-ltb u 64 few)) in
-      record {
-        bits = next_bit x v u l ∙ ap (λ ys. ys ++ x / 2 ^ (v - 1 - u) % 2 ∷ []) (m.bits ∙ marks_same s t u (λ j h. sym (is j ∙ else j h)))
-            ∙ ap (λ b. marks t u ++ b ∷ []) (one ∙ ap (λ d. cond d 1 0) (sym here)) ∙ sym (marks_more t u);
-        lower = λ j h. elim (or_cases (has s j) (eqb j u && ltb j 64) (sym (is j) ∙ h)) [
-          | inl a ↦ let q = m.lower j a in omega arith
-          | inr b ↦ let q = eqb-true j u (and_parts (eqb j u) (ltb j 64) b).0 in omega arith
-        ];
-      }
-    where
-      else : (j : ℕ) → j < u → (has s j || (eqb j u && ltb j 64)) ≡ has s j
-      else j h = rw (ne_eqb j u (λ e. omega arith)) (go (has s j))
-        where
-          go : (b : Bool) → (b || false) ≡ b
-          go true = refl
-          go false = refl
-
-pub mirrored_all : (x v s u : ℕ) → u ≡ v → Mirrored x v s u → (field v x ≡ marks s v) × AllBelow s v
-mirrored_all x v s u e m =
-    let z : v - v ≡ 0 = omega arith in
-    let b : field v (x / 2 ^ (v - v)) ≡ marks s v = rw e at m.bits in
-    ((ap (λ y. field v y) (sym (rw z (div-one x))) ∙ b), (rw e at m.lower))
+-- a set has just those of the first v jobs that a field of v bits marks, which holds x
+pub marks_field : (x v s : ℕ) → ((j : ℕ) → has s j ≡ (ltb j v && eqb (bit_and (x / 2 ^ (v - 1 - j)) 1) 1)) → field v x ≡ marks s v
+marks_field x v s h =
+    ext_get_or 0 (field v x) (marks s v) (length-field v x ∙ sym (length-marks s v)) (λ i l.
+    let few : i < v = omega (arith, length-field v x) in
+    let e : has s i ≡ eqb (x / 2 ^ (v - 1 - i) % 2) 1 = rw (h i, lt-ltb i v few, and_mask (x / 2 ^ (v - 1 - i)) 1) refl in
+    rw (get_or-field v x i few, get_or-marks s v i few, e) (go (x / 2 ^ (v - 1 - i) % 2) (omega arith)))
+  where
+    go : (b : ℕ) → b < 2 → b ≡ cond (eqb b 1) 1 0
+    go zero l = refl
+    go (suc zero) l = refl
+    go (suc (suc b)) l = absurd (omega arith)
 
 -- a number from 1 up marks a job
 pub marks_zero : (n : ℕ) → marks 0 n ≡ field n 0
@@ -125,16 +98,12 @@ unfolding marks field
 marks_zero zero = refl
 marks_zero (suc n) = ap (λ ys. ys ++ cond (has 0 n) 1 0 ∷ []) (marks_zero n) ∙ ap (λ d. field n 0 ++ cond d 1 0 ∷ []) (has-zero n)
 
-pub marks_some : (x v s : ℕ) → x < 2 ^ v → v ≤ 64 → field v x ≡ marks s v → 1 ≤ x → 1 ≤ size s
-marks_some x v s small few e l = elim (cases_lt (size s) 1) [
+pub marks_some : (x v s : ℕ) → field v x ≡ marks s v → x < 2 ^ v → v ≤ 64 → 1 ≤ x → 1 ≤ size s
+marks_some x v s e small few l = elim (cases_lt (size s) 1) [
   | inl z ↦ absurd (
-      let none : (u : ℕ) → u < v → has s u ≡ false = λ u h. bare_from_size 64 s (omega arith) u (omega arith) in
-      let zero_is : field v x ≡ field v 0 = e ∙ marks_same s 0 v (λ u h. none u h ∙ sym (has-zero u)) ∙ marks_zero v in
+      let none : (u : ℕ) → u < v → has s u ≡ false = λ u m. bare_from_size 64 s (omega arith) u (omega arith) in
+      let zero_is : field v x ≡ field v 0 = e ∙ marks_same s 0 v (λ u m. none u m ∙ sym (has-zero u)) ∙ marks_zero v in
       let q : x ≡ 0 = sym (number-field v x small) ∙ ap number zero_is ∙ number-field v 0 (pow_pos v) in
       omega arith)
   | inr g ↦ g
 ]
-
--- job 0 has no predecessor field
-pub no_marks : (us : List ℕ) (p v s : ℕ) → v ≡ 0 → Empty s → PrecededBy us p v s
-no_marks us p v s e h = rw e record { same_bits = sym (marks_none s); lower = λ u m. absurd (both_ways (has s u) (h u) m); some = inl refl }

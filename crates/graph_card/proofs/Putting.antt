@@ -1,5 +1,5 @@
 -- Writing the fields of a card, one after the other.
-use Rattle.std.proofs.Common.{◌≡◌, ℕ, zero, suc, ◌+◌, ◌-◌, ◌*◌, ◌/◌, ◌^◌, ◌<◌, ◌≤◌, Bool, true, false, ltb, leb, List, [], ◌++◌, length, take, drop, replicate, sym, ap, ◌∙◌, subst, ap₂, mul-le-mul, zero-add, add-one, arith}
+use Rattle.std.proofs.Common.{◌≡◌, ℕ, zero, suc, ◌+◌, ◌-◌, ◌*◌, ◌/◌, ◌^◌, ◌<◌, ◌≤◌, Bool, true, false, ltb, leb, List, [], ◌++◌, length, take, drop, replicate, sym, ap, ◌∙◌, subst, ap₂, zero-add, add-one, arith}
 use Rattle.std.proofs.lemmas.List.{append_assoc, append-nil, length-append, length-take-le, length-drop, take-append-drop, take_at, drop_at, drop-drop, drop-append-le, drop-replicate}
 use Rattle.std.proofs.lemmas.Bool.{both_ways, and_from, le-leb, lt-ltb}
 use Rattle.base.specs.declared.job_set.JobSet.{JobSet}
@@ -12,11 +12,13 @@ use Rattle.bits.proofs.Packing.{length-field, length-bits}
 use Rattle.bits.proofs.Determining.{bits_give_bytes}
 use Rattle.graph.specs.declared.graph.Graph.{Graph}
 use Rattle.graph.specs.Rules.{time_at, preds_at}
-use Rattle.graph_card.specs.Layout.{head, marks, row, rows, start, fields}
+use Rattle.graph_card.specs.Layout.{marks, row, rows, start, fields}
+use Rattle.card.specs.Heading.{head}
+use Rattle.card.proofs.Heads.{length-head}
 use Rattle.graph_card.specs.Cards.{fields_of, card}
 use Rattle.graph_card.specs.Parts.{Put}
 use Rattle.graph_card.proofs.Marking.{length-marks, marks_none, marks_small}
-use Rattle.graph_card.proofs.Spacing.{start_is, start_zero, start_suc}
+use Rattle.graph_card.proofs.Spacing.{start_is, start_mono, start_range, start_zero, start_suc}
 
 -- ---- one field
 
@@ -32,9 +34,9 @@ put_field us vs p w x r =
     }
 
 -- there is room, and the value fits: the field is written
-pub wrote : (old new : List ℕ) (p w x : ℕ) (r : Bool) → p + w ≤ 8 * length old → x < 2 ^ w → WritesField old p w x r new → Wrote (bits_of old) p w x (bits_of new)
-wrote old new p w x true room fits h = h
-wrote old new p w x false room fits h =
+pub puts : (old new : List ℕ) (p w x : ℕ) (r : Bool) → WritesField old p w x r new → p + w ≤ 8 * length old → x < 2 ^ w → Put (bits_of old) p (field w x) (bits_of new)
+puts old new p w x true h room fits = put_field (bits_of old) (bits_of new) p w x h
+puts old new p w x false h room fits =
     let len = length-bits old in
     absurd (both_ways _ h.unfit (and_from (leb (p + w) (length (bits_of old))) (ltb x (2 ^ w)) (le-leb (p + w) (length (bits_of old)) (omega arith)) (lt-ltb x (2 ^ w) fits)))
 
@@ -64,15 +66,6 @@ put_as us vs p xs ys e r = let P : List ℕ → Type 0 = λ zs. Put us p zs vs i
 
 -- ---- how long the parts are
 
-pub length-head : (n m d : ℕ) → length (head n m d) ≡ 33
-unfolding head
-length-head n m d =
-    let a = length-append (field 4 1) (field 7 n ++ (field 5 m ++ field 17 d)) in
-    let b = length-append (field 7 n) (field 5 m ++ field 17 d) in
-    let c = length-append (field 5 m) (field 17 d) in
-    let e = length-field 4 1 in let f = length-field 7 n in let g = length-field 5 m in let h = length-field 17 d in
-    omega arith
-
 pub length-row : (t s v : ℕ) → length (row t s v) ≡ 11 + v
 length-row t s v = length-append (field 11 t) (marks s v) ∙ (let a = length-field 11 t in let b = length-marks s v in omega arith)
 
@@ -95,17 +88,11 @@ length_fields g =
 pub length-card : (g : Graph) → length (card g) ≡ (start g.jobs + 7) / 8
 length-card g = length-bytes (fields_of g) ∙ ap (λ n. (n + 7) / 8) (length_fields g)
 
-pub start_range : (n : ℕ) → n ≤ 64 → (33 ≤ start n) × (start n ≤ 2753)
-start_range n l =
-    let e = start_is n in
-    let small : n * (n + 21) ≤ 64 * 85 = mul-le-mul {n₁ = n} {m₁ = n + 21} {n₂ = 64} {m₂ = 85} (omega arith) (omega arith) in
-    (omega arith, omega arith)
-
 -- ---- the head and the rows
 
-pub put_head : (us vs ws xs ys : List ℕ) (n m d n' m' d' : ℕ) → n ≡ n' → m ≡ m' → d ≡ d' → Put us 0 (field 4 1) vs → Put vs 4 (field 7 n) ws → Put ws 11 (field 5 m) xs → Put xs 16 (field 17 d) ys → Put us 0 (head n' m' d') ys
+pub put_head : (us vs ws xs ys : List ℕ) (n m d n' m' d' : ℕ) → Put xs 16 (field 17 d) ys → Put ws 11 (field 5 m) xs → Put vs 4 (field 7 n) ws → Put us 0 (field 4 1) vs → n ≡ n' → m ≡ m' → d ≡ d' → Put us 0 (head n' m' d') ys
 unfolding head
-put_head us vs ws xs ys n m d n' m' d' p q r a b c e =
+put_head us vs ws xs ys n m d n' m' d' e c b a p q r =
     let l4 = length-field 4 1 in
     let l7 = length-field 7 n in
     let l5 = length-field 5 m in
@@ -116,14 +103,16 @@ put_head us vs ws xs ys n m d n' m' d' p q r a b c e =
     let four = put_then us xs ys 0 16 ((field 4 1 ++ field 7 n) ++ field 5 m) (field 17 d) (omega arith) three e in
     rw (← p, ← q, ← r) (put_as us ys 0 _ _ (simp append_assoc) four)
 
-pub put_first : (us vs : List ℕ) (p v t t' s : ℕ) → p ≡ start v → v ≡ 0 → t ≡ t' → Put us p (field 11 t) vs → Put us (start v) (row t' s v) vs
-put_first us vs p v t t' s at e same a =
-    rw (← at) (put_as us vs p (field 11 t) (row t' s v) (ap (λ x. field 11 x) same ∙ sym (append-nil (field 11 t')) ∙ ap (λ ys. field 11 t' ++ ys) (sym (ap (λ n. marks s n) e ∙ marks_none s))) a)
+-- of a job that has no predecessor field
+pub put_first : (us vs : List ℕ) (v p w t t' s : ℕ) → Put us p (field w t') vs → v ≡ 0 → p ≡ start v → w ≡ 11 → t' ≡ t → Put us (start v) (row t s v) vs
+put_first us vs v p w t t' s a e at wide same =
+    put_as us vs (start v) (field 11 t) (row t s v) (sym (append-nil (field 11 t)) ∙ ap (λ ys. field 11 t ++ ys) (sym (ap (λ n. marks s n) e ∙ marks_none s))) (rw (at, wide, same) at a)
 
-pub put_row : (us vs ws : List ℕ) (p v t t' s x : ℕ) → p ≡ start v → t ≡ t' → field v x ≡ marks s v → Put us p (field 11 t) vs → Put vs (p + 11) (field v x) ws → Put us (start v) (row t' s v) ws
-put_row us vs ws p v t t' s x at same bits a b =
-    rw (← at) (put_as us ws p (field 11 t ++ field v x) (row t' s v) (ap₂ (λ xs ys. xs ++ ys) (ap (λ y. field 11 y) same) bits)
-    (put_then us vs ws p (p + 11) (field 11 t) (field v x) (ap (λ n. p + n) (sym (length-field 11 t))) a b))
+-- and of one that has one
+pub put_row : (us vs ws : List ℕ) (v p w t t' q n x s s' : ℕ) → Put vs q (field n x) ws → Put us p (field w t') vs → q ≡ start v + 11 → n ≡ v → field v x ≡ marks s' v → s' ≡ s → p ≡ start v → w ≡ 11 → t' ≡ t → Put us (start v) (row t s v) ws
+put_row us vs ws v p w t t' q n x s s' b a behind long bits is at wide same =
+    put_as us ws (start v) (field 11 t ++ field v x) (row t s v) (ap (λ ys. field 11 t ++ ys) (bits ∙ ap (λ z. marks z v) is))
+    (put_then us vs ws (start v) (start v + 11) (field 11 t) (field v x) (ap (λ n. start v + n) (sym (length-field 11 t))) (rw (at, wide, same) at a) (rw (behind, long) at b))
 
 pub no_rows : (us ts : List ℕ) (ps : List JobSet) → 33 ≤ length us → Put us 33 (rows ts ps 0) us
 unfolding rows
@@ -179,3 +168,21 @@ whole_card g old zeroed new k count room small_zeroed small_new is put =
     put.bits ∙ ap (λ n. us ++ drop n (bits_of zeroed)) (zero-add (length us)) ∙ ap (λ ys. us ++ ys) rest ∙ sym (append_assoc us (replicate fill 0) (bits_of (drop k old)))
     ∙ ap (λ ys. ys ++ bits_of (drop k old)) (sym (bytes_hold_bits us (bits_fields g))) ∙ sym (bits_join (card g) (drop k old)) in
     bits_give_bytes new (card g ++ drop k old) small_new (bytes_append (card g) (drop k old) (small_bytes us (bits_fields g)) small_old) same
+
+-- what the functions name that count the bytes
+pub ruleset bytes = (length-card, start_range)
+
+-- how far the head and the rows of the jobs reach
+pub job_fits : (old now : List ℕ) (v n m : ℕ) → start n ≤ 8 * length old → length now ≡ length old → m ≡ n → v < m → start v + (11 + v) ≤ 8 * length now
+job_fits old now v n m room same e l = let far = start_mono v n (omega arith) in omega arith
+
+pub rows_start : (bs ts : List ℕ) (ps : List JobSet) (n : ℕ) → start n ≤ 8 * length bs → Put (bits_of bs) 33 (rows ts ps 0) (bits_of bs)
+rows_start bs ts ps n room = no_rows (bits_of bs) ts ps (let r = start_is n in let l = length-bits bs in omega arith)
+
+pub head_fits : (bs : List ℕ) (g : Graph) → length (card g) ≤ length bs → 33 ≤ 8 * length bs
+head_fits bs g room = let r = (start_range g.jobs g.few_jobs).0 in let n = length-card g in omega arith
+
+pub rows_fit : (bs : List ℕ) (g : Graph) → length (card g) ≤ length bs → start g.jobs ≤ 8 * length bs
+rows_fit bs g room = let n = length-card g in omega arith
+
+pub ruleset of_card = (head_fits, rows_fit)

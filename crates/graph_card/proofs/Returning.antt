@@ -1,7 +1,7 @@
 -- One graph, one card.
 use Rattle.std.proofs.Common.{◌≡◌, ℕ, zero, suc, ◌+◌, ◌-◌, ◌≤◌, Bool, true, false, cond, leb, List, [], length, get_or, None, Ok, Err, sym, refl, ap, ◌∙◌, inl, inr, arith}
 use Rattle.std.proofs.lemmas.Bool.{cases_lt, cases_Bool, le-leb}
-use Rattle.base.specs.declared.fault.Layer.TheVariants.{Card, Graph as GraphLayer}
+use Rattle.base.specs.declared.fault.Layer.TheVariants.{Graph as GraphLayer}
 use Rattle.base.specs.JobSets.{has, size}
 use Rattle.base.specs.Refusal.{says}
 use Rattle.base.specs.Questions.{ask, first_no, asked_below}
@@ -13,25 +13,25 @@ use Rattle.bits.specs.Fields.{field, number, bits_of, cut, value_at}
 use Rattle.bits.proofs.Determining.{value_gives_bits}
 use Rattle.bits.proofs.Filling.{bytes_hold_bits, filled_not_at_fault}
 use Rattle.graph.specs.declared.graph.Graph.{Graph}
-use Rattle.graph.specs.Limits.{jobs_allowed, crews_allowed, layover_allowed, time_allowed}
+use Rattle.graph.specs.Limits.{time_allowed}
 use Rattle.graph.specs.Rules.{has_succ}
 use Rattle.graph.specs.Graphs.{is_pred}
 use Rattle.graph.specs.Making.{AllBelow, succ_asked, succs_asked}
 use Rattle.graph.proofs.Below.{any_same}
 use Rattle.graph.proofs.Same.{same_graph}
+use Rattle.card.specs.Heading.{there, heading, jobs_of}
 use Rattle.graph_card.specs.Layout.{marks, start}
-use Rattle.graph_card.specs.Asking.{there, version_allowed, heading, preds_asked, time_asked, job_asked, marked, filling, asked_of, questions, jobs_of, crews_of}
+use Rattle.graph_card.specs.Asking.{preds_asked, time_asked, job_asked, marked, filling, asked_of, questions}
 use Rattle.graph_card.specs.Cards.{fields_of, card}
 use Rattle.graph_card.specs.Laws.{ReadsBack, OneGraph, OneCard, Largest}
-use Rattle.graph_card.specs.Parts.{RowRead}
+use Rattle.graph_card.specs.Parts.{Lasting, RowRead}
 use Rattle.graph_card.proofs.Closing.{nothing_behind}
 use Rattle.graph_card.proofs.Drafting.{marked_is}
 use Rattle.graph_card.proofs.Marking.{get_or-marks, marks_zero, marks_small, length-marks}
-use Rattle.graph_card.proofs.Putting.{length-card, length_fields, start_range, bits_fields}
-use Rattle.graph_card.proofs.Ranging.{is_allowed}
+use Rattle.graph_card.proofs.Putting.{length-card, length_fields, bits_fields}
+use Rattle.graph_card.proofs.Spacing.{start_range}
 use Rattle.graph_card.proofs.Rowing.{row_room}
 use Rattle.graph_card.proofs.Showing.{head_shown, row_shown, card_bits}
-use Rattle.graph_card.proofs.Stopping.{none_stops}
 
 -- marks of a set with a member write a number from 1 up
 marks_number : (s v : ℕ) → AllBelow s v → 1 ≤ size s → 1 ≤ number (marks s v)
@@ -67,11 +67,15 @@ preds_hold us (suc v) t s r =
     passed (there us (start (suc v) + 11) (suc v)) _ (le-leb (start (suc v) + 11 + suc v) (length us) (omega arith))
     ∙ passed (ask (leb 1 (number (cut us (start (suc v) + 11) (suc v)))) (says 7 (suc v) GraphLayer)) [] (le-leb 1 (number (cut us (start (suc v) + 11) (suc v))) q) ∙ nothing_asked
 
+time_holds : (us : List ℕ) (p v t : ℕ) → Lasting us p t → first_no (time_asked us p v) ≡ None
+time_holds us p v t r =
+    passed (there us p 11) _ (le-leb (p + 11) (length us) r.got.there)
+    ∙ passed (ask (time_allowed (value_at us p 11)) (says 6 v GraphLayer)) [] (ap time_allowed (sym r.got.value) ∙ r.lawful) ∙ nothing_asked
+
 job_holds : (us : List ℕ) (v t s : ℕ) → RowRead us v t s → first_no (job_asked us v) ≡ None
 unfolding job_asked
 job_holds us v t s r =
-    let time = is_allowed us (start v) 11 time_allowed (λ _. says 6 v GraphLayer) t r.time.got r.time.lawful in
-    all_passed (time_asked us (start v) v) (preds_asked us (start v + 11) v) time.all_hold ∙ preds_hold us v t s r
+    all_passed (time_asked us (start v) v) (preds_asked us (start v + 11) v) (time_holds us (start v) v t r.time) ∙ preds_hold us v t s r
 
 -- ---- all questions about the card of a graph
 
@@ -80,18 +84,10 @@ module _ (g : Graph) where
   us = bits_of (card g)
 
   heading_holds : first_no (heading us) ≡ None
-  heading_holds =
-      let h = head_shown g us _ (card_bits g) in
-      none_stops us (is_allowed us 0 4 version_allowed (λ x. says 2 x Card) 1 h.version.got h.version.lawful).all_hold
-      (is_allowed us 4 7 jobs_allowed (λ x. says 3 x Card) g.jobs h.jobs.got h.jobs.lawful).all_hold
-      (is_allowed us 11 5 crews_allowed (λ x. says 4 x Card) g.crews h.crews.got h.crews.lawful).all_hold
-      (is_allowed us 16 17 layover_allowed (λ x. says 5 x Card) g.layover h.layover.got h.layover.lawful).all_hold
+  heading_holds = (head_shown g us _ (card_bits g)).0
 
   pub jobs_shown : g.jobs ≡ jobs_of us
-  jobs_shown = (head_shown g us _ (card_bits g)).jobs.got.value
-
-  pub crews_shown : g.crews ≡ crews_of us
-  crews_shown = (head_shown g us _ (card_bits g)).crews.got.value
+  jobs_shown = (head_shown g us _ (card_bits g)).1.jobs
 
   rows_hold : first_no (asked_below (job_asked us) g.jobs) ≡ None
   rows_hold = asked_all (job_asked us) g.jobs (λ v l. job_holds us v _ _ (row_shown g us _ (card_bits g) v l))
@@ -117,13 +113,13 @@ pub one_graph : OneGraph
 one_graph g h e =
     let us = bits_of (card g) in
     let is : us ≡ _ = ap bits_of e ∙ card_bits h in
-    let a = head_shown g us _ (card_bits g) in
-    let b = head_shown h us _ is in
-    let n : g.jobs ≡ h.jobs = a.jobs.got.value ∙ sym b.jobs.got.value in
+    let a = (head_shown g us _ (card_bits g)).1 in
+    let b = (head_shown h us _ is).1 in
+    let n : g.jobs ≡ h.jobs = a.jobs ∙ sym b.jobs in
     same_graph g h record {
       jobs = n;
-      crews = a.crews.got.value ∙ sym b.crews.got.value;
-      layover = a.layover.got.value ∙ sym b.layover.got.value;
+      crews = a.crews ∙ sym b.crews;
+      layover = a.layover ∙ sym b.layover;
       times = λ v l. (row_shown g us _ (card_bits g) v l).time.got.value ∙ sym (row_shown h us _ is v (omega arith)).time.got.value;
       preds = λ u v m l. sym (marked_is us v _ _ u (row_shown g us _ (card_bits g) v l)) ∙ marked_is us v _ _ u (row_shown h us _ is v (omega arith));
     }

@@ -2,39 +2,17 @@
 use Rattle.std.proofs.Common.{◌≡◌, ℕ, ◌+◌, ◌<◌, ◌≤◌, List, length, take, drop, set, replicate, None, sym, refl, ap, ◌∙◌, subst, inl, inr, arith, length-take}
 use Rattle.std.proofs.lemmas.List.{length-set, length-drop, get_or-set_same, get_or-set_other}
 use Rattle.std.proofs.lemmas.Bool.{cases_eq}
-use Rattle.base.specs.declared.fault.Fault.{Fault}
 use Rattle.base.specs.declared.job_set.JobSet.{JobSet}
-use Rattle.base.specs.Refusal.{said}
 use Rattle.base.specs.Questions.{first_no, asked_below, Taken, Refused}
-use Rattle.base.proofs.Asking.{all_passed, one_failed, asked_none, asked_more}
-use Rattle.graph.specs.Limits.{time_allowed}
+use Rattle.base.specs.declared.fault.Fault.{Fault}
+use Rattle.base.specs.Refusal.{said}
+use Rattle.base.proofs.Asking.{asked_none, asked_more, asked_stops}
 use Rattle.graph.specs.Rules.{none, time_at, preds_at}
 use Rattle.graph_card.specs.Layout.{start}
-use Rattle.graph_card.specs.Asking.{time_asked, preds_asked, job_asked}
-use Rattle.graph_card.specs.Parts.{Holds, PrecededBy, RowRead, RowsRead}
+use Rattle.graph_card.specs.Asking.{job_asked}
+use Rattle.graph_card.specs.Parts.{RowRead, RowsRead}
 use Rattle.graph_card.specs.declared.read.Job.{Job}
 use Rattle.graph_card.proofs.Marking.{length-marks}
-
--- ---- the fields of one job, which begin at bit p
-
-module _ (us : List ℕ) (v p : ℕ) (at : p ≡ start v) where
-  pub at_time : (f : Fault) → Refused (time_asked us p v) f (Unit {0}) → Refused (job_asked us v) f (Unit {0})
-  unfolding job_asked
-  at_time f r = rw (← at) record { fails = one_failed (time_asked us p v) (preds_asked us (p + 11) v) (said f) r.fails; keeps = tt }
-
-  pub at_preds : (f : Fault) → first_no (time_asked us p v) ≡ None → Refused (preds_asked us (p + 11) v) f (Unit {0}) → Refused (job_asked us v) f (Unit {0})
-  unfolding job_asked
-  at_preds f a r = rw (← at) record { fails = all_passed (time_asked us p v) (preds_asked us (p + 11) v) a ∙ r.fails; keeps = tt }
-
-  pub row_taken : (t s : ℕ) → Taken (time_asked us p v) (Holds us p 11 time_allowed t) → Taken (preds_asked us (p + 11) v) (PrecededBy us (p + 11) v s) → Taken (job_asked us v) (RowRead us v t s)
-  unfolding job_asked
-  row_taken t s a b =
-      let P : ℕ → Type 0 = λ q. Holds us q 11 time_allowed t in
-      let Q : ℕ → Type 0 = λ q. PrecededBy us (q + 11) v s in
-      record {
-        all_hold = rw (← at) (all_passed (time_asked us p v) (preds_asked us (p + 11) v) a.all_hold ∙ b.all_hold);
-        does = record { time = subst P at a.does; preds = subst Q at b.does };
-      }
 
 -- the fields of a job are there whole
 pub row_room : (us : List ℕ) (v t s : ℕ) → RowRead us v t s → start v + (11 + v) ≤ length us
@@ -57,18 +35,18 @@ pub so_far_none : (us : List ℕ) (s : JobSet) → SoFar us 0 (replicate 64 0) (
 so_far_none us s = record { all_times = refl; all_preds = refl; asked = asked_none (job_asked us); rows = λ w l. absurd (omega arith) }
 
 module _ (us : List ℕ) (v : ℕ) (ts : List ℕ) (ps : List JobSet) (j : Job) (few : v < 64) (so : SoFar us v ts ps)
-    (now : Taken (job_asked us v) (RowRead us v j.time j.preds.bits)) where
+    (now : Taken (job_asked us v) (RowRead us v j.time j.preds)) where
   here : RowRead us v (time_at (set ts v j.time) v) (preds_at (set ps v j.preds) v)
   here =
       let a : time_at (set ts v j.time) v ≡ j.time = get_or-set_same ts v j.time 0 (let q = so.all_times in omega arith) in
-      let b : preds_at (set ps v j.preds) v ≡ j.preds.bits = ap (λ (s : JobSet). s.bits) (get_or-set_same ps v j.preds none (let q = so.all_preds in omega arith)) in
+      let b : preds_at (set ps v j.preds) v ≡ j.preds = (get_or-set_same ps v j.preds none (let q = so.all_preds in omega arith)) in
       rw (a, b) now.does
 
   else : (w : ℕ) → w < v → RowRead us w (time_at (set ts v j.time) w) (preds_at (set ps v j.preds) w)
   else w l =
       let n : w ≡ v → ⊥ = λ e. omega arith in
       let a : time_at (set ts v j.time) w ≡ time_at ts w = get_or-set_other ts v w j.time 0 n in
-      let b : preds_at (set ps v j.preds) w ≡ preds_at ps w = ap (λ (s : JobSet). s.bits) (get_or-set_other ps v w j.preds none n) in
+      let b : preds_at (set ps v j.preds) w ≡ preds_at ps w = (get_or-set_other ps v w j.preds none n) in
       rw (a, b) (so.rows w l)
 
   pub so_far_more : SoFar us (v + 1) (set ts v j.time) (set ps v j.preds)
@@ -81,3 +59,7 @@ module _ (us : List ℕ) (v : ℕ) (ts : List ℕ) (ps : List JobSet) (j : Job) 
       | inr n ↦ else w (omega arith)
     ];
   }
+
+-- one of them is refused, or all are read
+pub rows_stop : (us : List ℕ) (n v : ℕ) (ts : List ℕ) (ps : List JobSet) (f : Fault) → v < n → SoFar us v ts ps → Refused (job_asked us v) f (Unit {0}) → Refused (asked_below (job_asked us) n) f (Unit {0})
+rows_stop us n v ts ps f l so r = record { fails = asked_stops (job_asked us) n v (said f) l so.asked r.fails; keeps = tt }

@@ -1,5 +1,5 @@
 -- Where the fields of a job begin.
-use Rattle.std.proofs.Common.{◌≡◌, ℕ, zero, suc, ◌+◌, ◌*◌, ◌/◌, ◌<◌, ◌≤◌, refl, inl, inr, add-one, arith}
+use Rattle.std.proofs.Common.{◌≡◌, ℕ, zero, suc, ◌+◌, ◌*◌, ◌/◌, ◌<◌, ◌≤◌, refl, inl, inr, mul-le-mul, arith}
 use Rattle.std.proofs.lemmas.Bool.{cases_lt}
 use Rattle.graph_card.specs.Layout.{start}
 
@@ -12,9 +12,11 @@ twice (suc v) = let h = twice v in omega arith
 pub start_is : (v : ℕ) → start v ≡ 33 + v * (v + 21) / 2
 start_is v = let h = twice v in omega arith
 
-pub start_more : (v : ℕ) → start (v + 1) ≡ start v + (11 + v)
-unfolding start
-start_more v = rw (add-one v)
+pub start_range : (n : ℕ) → n ≤ 64 → (33 ≤ start n) × (start n ≤ 2753)
+start_range n l =
+    let e = start_is n in
+    let small : n * (n + 21) ≤ 64 * 85 = mul-le-mul {n₁ = n} {m₁ = n + 21} {n₂ = 64} {m₂ = 85} (omega arith) (omega arith) in
+    (omega arith, omega arith)
 
 pub start_zero : start 0 ≡ 33
 unfolding start

@@ -1,45 +1,18 @@
 -- The questions that reading a card asks, in their sequence, over the bits of the card.
 use Rattle.std.specs.Prelude.{ℕ, zero, suc, ◌+◌, Bool, not, ◌&&◌, List, [], ◌∷◌, ◌++◌, length, ◌==◌, nat_le, nat_lt, slice_index}
-use Rattle.base.specs.declared.fault.Layer.TheVariants.{Bits, Card, Graph as GraphLayer}
-use Rattle.base.specs.Refusal.{Said, says}
+use Rattle.base.specs.declared.fault.Layer.TheVariants.{Bits, Graph as GraphLayer}
+use Rattle.base.specs.Refusal.{says}
 use Rattle.base.specs.Questions.{Question, ask, asked_below}
 use Rattle.bits.specs.Fields.{value_at}
 use Rattle.bits.specs.Trailing.{at_fault}
-use Rattle.graph.specs.Limits.{jobs_allowed, crews_allowed, layover_allowed, time_allowed}
+use Rattle.card.specs.Heading.{there, heading, jobs_of}
+use Rattle.graph.specs.Limits.{time_allowed}
 use Rattle.graph.specs.Making.{succs_asked}
 use Rattle.graph_card.specs.Layout.{start}
 
--- What the fields of the head hold, each from its first bit, over its width.
-abbrev pub jobs_of : List ℕ → ℕ
-jobs_of us = value_at us 4 7
-
-abbrev pub crews_of : List ℕ → ℕ
-crews_of us = value_at us 11 5
-
-abbrev pub layover_of : List ℕ → ℕ
-layover_of us = value_at us 16 17
-
--- Question 1: is the field of w bits that begins at bit p there whole? The place is its first bit.
-abbrev pub there : List ℕ → ℕ → ℕ → Question
-there us p w = ask (nat_le (p + w) (length us)) (says 1 p Bits)
-
--- A field that is to hold a value that is allowed: question 1, then that of the value, of which it says `words`.
-abbrev pub valued : List ℕ → ℕ → ℕ → (ℕ → Bool) → (ℕ → Said) → List Question
-valued us p w allowed words = there us p w ∷ ask (allowed (value_at us p w)) (words (value_at us p w)) ∷ []
-
--- The version is 1.
-abbrev pub version_allowed : ℕ → Bool
-version_allowed x = x == 1
-
--- The head: version, jobs, crews and layover are allowed. The place is the value.
-unfoldable pub heading : List ℕ → List Question
-heading us =
-    valued us 0 4 version_allowed (λ x. says 2 x Card)
-    ++ (valued us 4 7 jobs_allowed (λ x. says 3 x Card) ++ (valued us 11 5 crews_allowed (λ x. says 4 x Card) ++ valued us 16 17 layover_allowed (λ x. says 5 x Card)))
-
 -- The longest time of job v, in the field at bit p: the place is v.
 abbrev pub time_asked : List ℕ → ℕ → ℕ → List Question
-time_asked us p v = valued us p 11 time_allowed (λ _. says 6 v GraphLayer)
+time_asked us p v = there us p 11 ∷ ask (time_allowed (value_at us p 11)) (says 6 v GraphLayer) ∷ []
 
 -- The predecessors of job v, in the field at bit p: is one bit set? The place is v. Job 0 has no such field.
 abbrev pub preds_asked : List ℕ → ℕ → ℕ → List Question

@@ -1,19 +1,22 @@
 -- Which bits a work card has, over the parts of a graph.
-use Rattle.std.specs.Prelude.{ℕ, zero, suc, ◌+◌, cond, List, [], ◌∷◌, ◌++◌}
+use Rattle.std.specs.Prelude.{◌≡◌, ℕ, zero, suc, ◌+◌, cond, List, [], ◌∷◌, ◌++◌}
 use Rattle.base.specs.declared.job_set.JobSet.{JobSet}
 use Rattle.base.specs.JobSets.{has}
 use Rattle.bits.specs.Bytes.{bytes_of}
 use Rattle.bits.specs.Fields.{field}
+use Rattle.card.specs.Heading.{head}
+use Rattle.graph.specs.Making.{AllBelow}
 use Rattle.graph.specs.Rules.{time_at, preds_at}
-
--- The head: version 1, n jobs, m crews, a layover of d minutes.
-unfoldable pub head : ℕ → ℕ → ℕ → List ℕ
-head n m d = field 4 1 ++ (field 7 n ++ (field 5 m ++ field 17 d))
 
 -- A predecessor field: one bit for each of the jobs below v, job 0 first, which is 1 where the job is a member of s.
 unfoldable pub marks : ℕ → ℕ → List ℕ
 marks s zero = []
 marks s (suc v) = marks s v ++ cond (has s v) 1 0 ∷ []
+
+-- A predecessor field of job v that holds the number x has the bits of the set s, all of whose members are below v.
+pub record MarkedBy (x v s : ℕ) : Type 0 where
+  pub bits : field v x ≡ marks s v
+  pub lower : AllBelow s v
 
 -- The fields of job v: its longest time t, and its predecessors s.
 abbrev pub row : ℕ → ℕ → ℕ → List ℕ

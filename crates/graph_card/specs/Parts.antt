@@ -1,59 +1,28 @@
 -- For the functions below `read` and `write`: what was read so far, and what was written so far.
-use Rattle.std.specs.Prelude.{◌≡◌, ℕ, ◌+◌, ◌<◌, ◌≤◌, Bool, true, ◌⊎◌, List, ◌++◌, length, take, drop, Some, Ok, Err, Result}
+use Rattle.std.specs.Prelude.{◌≡◌, ℕ, ◌+◌, ◌<◌, ◌≤◌, true, ◌⊎◌, List, ◌++◌, length, take, drop, Some, Ok, Err, Result}
 use Rattle.base.specs.declared.fault.Fault.{Fault}
-use Rattle.base.specs.declared.fault.Layer.TheVariants.{Card, Graph as GraphLayer}
 use Rattle.base.specs.declared.job_set.JobSet.{JobSet}
 use Rattle.base.specs.JobSets.{size}
-use Rattle.base.specs.Refusal.{Said, says, said}
+use Rattle.base.specs.Refusal.{said}
 use Rattle.base.specs.Questions.{first_no, asked_below, Asks}
 use Rattle.bits.specs.Fields.{cut, bits_of}
 use Rattle.bits.specs.Reading.{Got}
 use Rattle.graph.specs.declared.draft.Draft.{Draft}
 use Rattle.graph.specs.declared.graph.Graph.{Graph}
-use Rattle.graph.specs.Limits.{jobs_allowed, crews_allowed, layover_allowed, time_allowed}
+use Rattle.card.specs.Heading.{Headed, Ranges}
+use Rattle.graph.specs.Limits.{time_allowed}
 use Rattle.graph.specs.Rules.{time_at, preds_at}
 use Rattle.graph.specs.Making.{AllBelow, succs_asked}
-use Rattle.graph_card.specs.declared.read.CardField.{CardField}
-use Rattle.graph_card.specs.declared.read.CardField.TheVariants.{Version, Jobs, Crews, Layover, Time}
-use Rattle.graph_card.specs.declared.read.Head.{Head}
 use Rattle.graph_card.specs.declared.read.Job.{Job}
 use Rattle.graph_card.specs.declared.read.Rows.{Rows}
 use Rattle.graph_card.specs.Layout.{marks, start}
-use Rattle.graph_card.specs.Asking.{valued, version_allowed, heading, job_asked, marked, filling, questions}
+use Rattle.graph_card.specs.Asking.{job_asked, marked, filling, questions}
 use Rattle.graph_card.specs.Cards.{fields_of}
 
--- What a field may hold, and what is said where it holds anything else.
-abbrev pub allowed_in : CardField → ℕ → Bool
-allowed_in Version x = version_allowed x
-allowed_in Jobs x = jobs_allowed x
-allowed_in Crews x = crews_allowed x
-allowed_in Layover x = layover_allowed x
-allowed_in (Time v) x = time_allowed x
-
-abbrev pub words : CardField → ℕ → Said
-words Version x = says 2 x Card
-words Jobs x = says 3 x Card
-words Crews x = says 4 x Card
-words Layover x = says 5 x Card
-words (Time v) x = says 6 v GraphLayer
-
--- A field that holds x, which is allowed.
-pub record Holds (us : List ℕ) (p w : ℕ) (allowed : ℕ → Bool) (x : ℕ) : Type 0 where
-  pub got : Got us p w x
-  pub lawful : allowed x ≡ true
-
-abbrev pub ReadsField : List ℕ → ℕ → ℕ → CardField → Result ℕ Fault → Type 0
-ReadsField us p w which r = Asks (valued us p w (allowed_in which) (words which)) (λ x. Holds us p w (allowed_in which) x) (Unit {0}) r
-
--- The four fields of the head.
-pub record Headed (us : List ℕ) (h : Head) : Type 0 where
-  pub version : Holds us 0 4 version_allowed 1
-  pub jobs : Holds us 4 7 jobs_allowed h.jobs
-  pub crews : Holds us 11 5 crews_allowed h.crews
-  pub layover : Holds us 16 17 layover_allowed h.layover
-
-abbrev pub ReadsHead : List ℕ → Result Head Fault → Type 0
-ReadsHead us r = Asks (heading us) (Headed us) (Unit {0}) r
+-- The longest time of a job, read from bit p on as t, which is allowed.
+pub record Lasting (us : List ℕ) (p t : ℕ) : Type 0 where
+  pub got : Got us p 11 t
+  pub lawful : time_allowed t ≡ true
 
 -- A predecessor field of job v that begins at bit p, read as the set s.
 pub record PrecededBy (us : List ℕ) (p v s : ℕ) : Type 0 where
@@ -63,11 +32,11 @@ pub record PrecededBy (us : List ℕ) (p v s : ℕ) : Type 0 where
 
 -- The fields of job v.
 pub record RowRead (us : List ℕ) (v t s : ℕ) : Type 0 where
-  pub time : Holds us (start v) 11 time_allowed t
+  pub time : Lasting us (start v) t
   pub preds : PrecededBy us (start v + 11) v s
 
 abbrev pub ReadsJob : List ℕ → ℕ → Result Job Fault → Type 0
-ReadsJob us v r = Asks (job_asked us v) (λ j. RowRead us v j.time j.preds.bits) (Unit {0}) r
+ReadsJob us v r = Asks (job_asked us v) (λ j. RowRead us v j.time j.preds) (Unit {0}) r
 
 -- Those of each of n jobs.
 abbrev pub RowsRead : List ℕ → ℕ → List ℕ → List JobSet → Type 0
@@ -78,13 +47,10 @@ ReadsRows us n r = Asks (asked_below (job_asked us) n) (λ rows. RowsRead us n r
 
 -- All fields were read, as a draft: questions 8 and 9 are left.
 pub record Drafted (us : List ℕ) (d : Draft) : Type 0 where
-  pub head : Headed us (record { jobs = d.jobs; crews = d.crews; layover = d.layover })
+  pub head : Headed us d.jobs d.crews d.layover
+  pub ranges : Ranges d.jobs d.crews d.layover
   pub rows : RowsRead us d.jobs d.times d.preds
   pub left : first_no (questions us) ≡ first_no (succs_asked (marked us) d.jobs ++ filling us (start d.jobs))
-
-abbrev pub ReadsDraft : List ℕ → Result Draft Fault → Type 0
-ReadsDraft us (Ok d) = Drafted us d
-ReadsDraft us (Err f) = first_no (questions us) ≡ Some (said f)
 
 -- Every question but the last was asked: the fields that were read are those of the graph, and question 9 is left.
 pub record Unfilled (bytes : List ℕ) (g : Graph) : Type 0 where

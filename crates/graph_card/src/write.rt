@@ -1,17 +1,18 @@
 //! Writing a card.
 ghost use Rattle.std.specs.Prelude.{◌≡◌, ℕ, ◌+◌, ◌*◌, ◌^◌, ◌<◌, ◌≤◌, ◌++◌, length, drop, replicate, slice_index};
-ghost use Rattle.base.specs.Questions.{room, Asks};
 ghost use Rattle.bits.specs.Fields.{field, bits_of};
 ghost use Rattle.graph.specs.Graphs.{time_of, preds_of};
 ghost use Rattle.graph_card.specs.Cards.{card, WritesCard};
-ghost use Rattle.graph_card.specs.Layout.{head, row, rows, start};
+ghost use Rattle.card.specs.Heading.{head};
+ghost use Rattle.graph_card.specs.Layout.{row as row_of, rows, start};
 ghost use Rattle.graph_card.specs.Parts.{Put};
 
-use crate::layout::{first_bit, to_field};
+use crate::layout::{Row, first_bit};
 use base::fault::Fault;
-use bits::tail::holds;
-use bits::width::Width;
-use bits::write::write as write_field;
+use base::room::ask_room;
+use bits::field::Field;
+use bits::number::Holds;
+use card::layout::{CREWS, JOBS, LAYOVER, VERSION};
 use graph::graph::Graph;
 
 /// How many bytes the card of a graph has, at most 345.
@@ -27,12 +28,13 @@ pub fn size(graph: &Graph) -> usize
 pub fn write(graph: &Graph, target: &mut [u8]) -> Result<usize, Fault>
     ensures { WritesCard graph.now target.old target.new result }
 {
-    ask_room(graph, target)?;
+    ask_room(target, byte_count(graph))?;
     put_card(graph, target);
     Ok(size(graph))
 }
 
 // How many bytes the card has.
+#[tactic(auto, using(crate::proofs::Putting::bytes))]
 fn byte_count(graph: &Graph) -> u32
     ensures value { result ≡ length (card graph.now) }
     ensures range { (1 ≤ result) × (result ≤ 345) }
@@ -40,20 +42,9 @@ fn byte_count(graph: &Graph) -> u32
     first_bit(graph.jobs()).div_ceil(8)
 }
 
-// Question 10: does `target` hold the whole card?
-fn ask_room(graph: &Graph, target: &[u8]) -> Result<(), Fault>
-    ensures { Asks (room (card graph.now) target.now) (λ _. length (card graph.now) ≤ length target.now) (Unit {0}) result }
-{
-    let needed = size(graph);
-    if holds(target, needed) {
-        return Ok(());
-    }
-    Err(Fault::TargetShort {
-        needed: needed as u32,
-    })
-}
-
+// A graph and a target, here and below, and no struct of the two: it would be made once, to be taken apart in each line.
 // Writes the card to the front of `target`, which has to hold it.
+#[tactic(auto, using(crate::proofs::Putting::of_card))]
 fn put_card(graph: &Graph, target: &mut [u8])
     requires { length (card graph.now) ≤ length target.old }
     ensures { target.new ≡ card graph.now ++ drop (length (card graph.now)) target.old }
@@ -77,10 +68,10 @@ fn put_head(graph: &Graph, target: &mut [u8])
     requires { 33 ≤ 8 * length target.old }
     ensures { Put (bits_of target.old) 0 (head graph.now.jobs graph.now.crews graph.now.layover) (bits_of target.new) }
 {
-    put(target, 0, Width { bits: 4 }, 1);
-    put(target, 4, Width { bits: 7 }, u64::from(graph.jobs()));
-    put(target, 11, Width { bits: 5 }, u64::from(graph.crews()));
-    put(target, 16, Width { bits: 17 }, u64::from(graph.layover()));
+    put(target, VERSION, 1u8);
+    put(target, JOBS, graph.jobs());
+    put(target, CREWS, graph.crews());
+    put(target, LAYOVER, graph.layover());
 }
 
 // Writes the fields of all jobs.
@@ -88,35 +79,29 @@ fn put_jobs(graph: &Graph, target: &mut [u8])
     requires { start graph.now.jobs ≤ 8 * length target.old }
     ensures { Put (bits_of target.old) 33 (rows graph.now.times graph.now.preds graph.now.jobs) (bits_of target.new) }
 {
+    // A loop, since it writes in place: of a closure that does so a proof knows nothing afterwards.
     for v in 0..graph.jobs() {
-        put_job(graph, v, target);
+        put_job(graph, Row { job: v }, target);
     }
 }
 
-// Writes the fields of job `v`. Job 0 has no predecessor field.
-fn put_job(graph: &Graph, v: u8, target: &mut [u8])
-    requires few { v < 64 }
-    requires room { start v + (11 + v) ≤ 8 * length target.old }
-    ensures { Put (bits_of target.old) (start v) (row (time_of graph.now v) (preds_of graph.now v) v) (bits_of target.new) }
+// Writes the fields of one job. Job 0 has no predecessor field.
+fn put_job(graph: &Graph, row: Row, target: &mut [u8])
+    requires { start row.job + (11 + row.job) ≤ 8 * length target.old }
+    ensures { Put (bits_of target.old) (start row.job) (row_of (time_of graph.now row.job) (preds_of graph.now row.job) row.job) (bits_of target.new) }
 {
-    let at = first_bit(v);
-    put(target, at, Width { bits: 11 }, u64::from(graph.time(v)));
-    if v == 0 {
-        return;
+    put(target, row.time(), graph.time(row.job));
+    if let Some(field) = row.preds() {
+        put(target, field, row.to_number(graph.preds(row.job)));
     }
-    put(
-        target,
-        at + 11,
-        Width { bits: v },
-        to_field(graph.preds(v), v),
-    );
 }
 
 // Writes one field, for which there is room, and which the value fits.
-fn put(target: &mut [u8], at: u32, width: Width<63>, value: u64)
-    requires room { at + width.bits ≤ 8 * length target.old }
-    requires fits { value < 2 ^ width.bits }
-    ensures { Put (bits_of target.old) at (field width.bits value) (bits_of target.new) }
+#[tactic(auto, using(crate::proofs::Putting::puts))]
+fn put<const MOST: u8, T: Holds<MOST>>(target: &mut [u8], to: Field<MOST>, value: T)
+    requires room { to.at + to.bits ≤ 8 * length target.old }
+    requires fits { T.number value < 2 ^ to.bits }
+    ensures { Put (bits_of target.old) to.entry.at (field to.entry.bits (T.number value)) (bits_of target.new) }
 {
-    write_field(target, at, width, value);
+    to.write(target, value);
 }

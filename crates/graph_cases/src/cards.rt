@@ -1,8 +1,7 @@
 //! Cards, both ways: whole, cut, filled wrongly, and at the edges of the ranges.
 use crate::graphs::{draft_a, largest_draft};
 use base::fault::Fault;
-use bits::width::Width;
-use bits::write::write as put;
+use bits::field::Field;
 use graph::graph::Graph;
 use graph_card::read::read;
 use graph_card::write::{size, write};
@@ -17,18 +16,18 @@ pub const CARD_A: [u8; 15] = [
 // The bytes are refused so, and the place keeps what it held.
 fn refuses(rt: &impl Abort, bytes: &[u8], fault: Fault) {
     let mut place = Graph::smallest();
-    assert_eq!(rt; read(bytes, &mut place).err(), Some(fault));
+    assert_eq!(rt; read(bytes, &mut place), Err(fault));
     assert_eq!(rt; place, Graph::smallest());
 }
 
 #[test]
 fn graph_a_both_ways(rt: HostRuntime) {
     let mut place = Graph::smallest();
-    assert_eq!(rt; read(&CARD_A, &mut place).err(), None);
-    assert_eq!(rt; Some(place), Graph::make(&draft_a()).ok());
+    assert_eq!(rt; read(&CARD_A, &mut place), Ok(()));
+    assert_eq!(rt; Ok(place), Graph::make(&draft_a()));
     assert_eq!(rt; size(&place), 15);
     let mut target = [7; 17];
-    assert_eq!(rt; write(&place, &mut target).ok(), Some(15));
+    assert_eq!(rt; write(&place, &mut target), Ok(15));
     assert!(rt; &target[0..15] == CARD_A.as_slice());
     assert!(rt; target[15] == 7 && target[16] == 7);
 }
@@ -40,8 +39,8 @@ fn a_target_one_byte_short(rt: HostRuntime) -> Result<(), Fail> {
     };
     let mut target = [7; 14];
     assert_eq!(rt;
-        write(&a, &mut target).err(),
-        Some(Fault::TargetShort { needed: 15 })
+        write(&a, &mut target),
+        Err(Fault::TargetShort { needed: 15 })
     );
     assert!(rt; target == [7; 14]);
     Ok(())
@@ -53,12 +52,12 @@ fn the_largest_card(rt: HostRuntime) -> Result<(), Fail> {
         return Err(Fail::new("the largest graph"));
     };
     let mut target = [7; 346];
-    assert_eq!(rt; write(&large, &mut target).ok(), Some(345));
+    assert_eq!(rt; write(&large, &mut target), Ok(345));
     assert!(rt; target[345] == 7);
     refuses(&rt, &target, Fault::StrayBit { bit: 2760 });
     refuses(&rt, &target[0..344], Fault::FieldCut { bit: 2690 });
     let mut place = Graph::smallest();
-    assert_eq!(rt; read(&target[0..345], &mut place).err(), None);
+    assert_eq!(rt; read(&target[0..345], &mut place), Ok(()));
     assert_eq!(rt; place, large);
     Ok(())
 }
@@ -77,7 +76,7 @@ fn every_cut(rt: HostRuntime) {
 fn behind_the_fields(rt: HostRuntime) {
     for bit in 114..120u32 {
         let mut card = CARD_A;
-        put(&mut card, bit, Width { bits: 1 }, 1);
+        Field::<63> { at: bit, bits: 1 }.write(&mut card, 1);
         refuses(&rt, &card, Fault::StrayBit { bit });
     }
     let mut long = [0; 16];
@@ -93,12 +92,12 @@ fn behind_the_fields(rt: HostRuntime) {
 fn times(rt: HostRuntime) {
     let mut card = CARD_A;
     let mut place = Graph::smallest();
-    put(&mut card, 98, Width { bits: 11 }, 1440);
-    assert_eq!(rt; read(&card, &mut place).err(), None);
+    Field::<63> { at: 98, bits: 11 }.write(&mut card, 1440);
+    assert_eq!(rt; read(&card, &mut place), Ok(()));
     assert_eq!(rt; place.time(5), 1440);
-    put(&mut card, 98, Width { bits: 11 }, 1441);
+    Field::<63> { at: 98, bits: 11 }.write(&mut card, 1441);
     refuses(&rt, &card, Fault::TimeOutOfRange { job: 5 });
-    put(&mut card, 33, Width { bits: 11 }, 0);
+    Field::<63> { at: 33, bits: 11 }.write(&mut card, 0);
     refuses(&rt, &card, Fault::TimeOutOfRange { job: 0 });
 }
 

@@ -25,6 +25,7 @@ fn answer(
 ) -> io::Result<bool> {
     let mut card = Vec::new(alloc);
     input.take(CARD_LIMIT).read_to_end(&mut card)?;
+    // The library writes into lent bytes: it takes no memory from a heap.
     let mut text = [0u8; 2048];
     let Ok(Answer { taken, written }) = answer_card(&card, &mut text) else {
         return Ok(false);

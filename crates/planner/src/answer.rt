@@ -13,6 +13,7 @@ use text::sheet::write_first_line;
 /// Whether a card was taken, and how many bytes of text answer it.
 #[derive(Clone, Copy, PartialEq, Eq, Debug)]
 pub struct Answer {
+    // Beside the count, and no enum of two cases: the count is there and means the same in both.
     /// Was the card taken?
     pub taken: bool,
     /// How many bytes were written to the target.
@@ -31,6 +32,7 @@ pub fn answer_card(card: &[u8], target: &mut [u8]) -> Result<Answer, Fault>
 }
 
 // What stands at the head of a card, or its first fault: by that the card is answered.
+#[tactic(auto, using(crate::proofs::Wording::words, crate::proofs::Wording::tells))]
 fn read_head(card: &[u8]) -> Result<Header, Fault>
     ensures text { wording result ≡ answer_text (bits_of card.now) }
     ensures taken { is_ok result ≡ is_taken (bits_of card.now) }

@@ -1,4 +1,1 @@
-pub mod Figures
-pub mod Writing
 pub mod Splits
-pub mod Pages

@@ -6,7 +6,7 @@ use Rattle.std.proofs.lemmas.Fmt.{decimal_is_IsNumeral, decimal_injective}
 use Rattle.text.specs.Lines.{refusal_line, LinesDiffer}
 
 -- Digits end where a byte stands that is no digit.
-pub split : (s : ℕ) (xs ys us vs : List ℕ) → (digit_value s < 10 → ⊥) → AllDigits 10 xs → AllDigits 10 ys → xs ++ s ∷ us ≡ ys ++ s ∷ vs → (xs ≡ ys) × (us ≡ vs)
+split : (s : ℕ) (xs ys us vs : List ℕ) → (digit_value s < 10 → ⊥) → AllDigits 10 xs → AllDigits 10 ys → xs ++ s ∷ us ≡ ys ++ s ∷ vs → (xs ≡ ys) × (us ≡ vs)
 split s [] [] us vs none p q e = (refl, cc)
 split s [] (y ∷ ys) us vs none p q e = let same : y ≡ s = cc in absurd (none (rw same at q.0))
 split s (x ∷ xs) [] us vs none p q e = let same : x ≡ s = cc in absurd (none (rw same at p.0))

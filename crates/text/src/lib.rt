@@ -1,7 +1,6 @@
 //! Lines of text, written into lent bytes.
 #![tactic(auto)]
 
-mod decimal;
-mod page;
+mod line;
 pub mod refusal;
 pub mod sheet;

@@ -7,7 +7,7 @@ ghost use Rattle.graph.specs.Making.{sizes_asked, preds_lawful, job_asked, jobs_
 
 use super::Graph;
 use crate::draft::Draft;
-use crate::limits::{allows_crews, allows_jobs, allows_layover, allows_time};
+use crate::limits::Limit;
 use base::fault::Fault;
 use base::job_set::JobSet;
 
@@ -24,8 +24,8 @@ impl Graph {
     pub fn make(draft: &Draft) -> Result<Graph, Fault>
         ensures { Makes draft.now result }
     {
-        ask_all(draft)?;
-        Ok(build(draft))
+        let asked = ask_all(draft)?;
+        Ok(asked.build())
     }
 }
 
@@ -41,61 +41,125 @@ fn single(minutes: u16) -> Graph
         crews: 1,
         layover: 1,
         times,
-        preds: [no_jobs(); 64],
+        preds: [JobSet::empty(); 64],
     })
 }
 
-// The empty set, as a value.
-pub(super) fn no_jobs() -> JobSet
-    ensures { result.bits ≡ 0 }
-{
-    JobSet::empty()
-}
-
 // Asks all questions about a draft.
-fn ask_all(draft: &Draft) -> Result<(), Fault>
-    ensures { Asks (making draft.now) (λ _. LowerBelow draft.now.preds draft.now.jobs) (Unit {0}) result }
+#[tactic(auto, using(base::proofs::Asking::refused, base::proofs::Asking::all_passed, base::proofs::Asking::one_failed), unfolding(crate::specs::Making::making))]
+fn ask_all(draft: &Draft) -> Result<SizedDraft, Fault>
+    ensures { Asks (making draft.now) (λ s. (s.parts ≡ draft.now) × LowerBelow draft.now.preds draft.now.jobs) (Unit {0}) result }
 {
-    ask_sizes(draft.jobs as u32, draft.crews as u32, draft.layover)?;
-    ask_jobs(draft)?;
-    ask_succs(draft)
+    let sized = ask_sizes(draft)?;
+    sized.ask_jobs()?;
+    sized.ask_succs()?;
+    Ok(sized)
 }
 
 // Questions 3, 4 and 5.
-fn ask_sizes(jobs: u32, crews: u32, layover: u32) -> Result<(), Fault>
-    ensures { Asks (sizes_asked jobs crews layover) (λ _. (1 ≤ jobs) × (jobs ≤ 64)) (Unit {0}) result }
+#[tactic(auto, using(base::proofs::Asking::refused), unfolding(crate::specs::Making::sizes_asked, base::specs::Questions::first_no))]
+fn ask_sizes(draft: &Draft) -> Result<SizedDraft, Fault>
+    ensures { Asks (sizes_asked draft.now.jobs draft.now.crews draft.now.layover) (λ s. s.parts ≡ draft.now) (Unit {0}) result }
 {
-    if !allows_jobs(jobs) {
-        return Err(Fault::JobsOutOfRange { value: jobs });
-    }
-    if !allows_crews(crews) {
-        return Err(Fault::CrewsOutOfRange { value: crews });
-    }
-    if !allows_layover(layover) {
-        return Err(Fault::LayoverOutOfRange { value: layover });
-    }
-    Ok(())
+    let jobs = u32::from(draft.jobs);
+    let crews = u32::from(draft.crews);
+    Limit::Jobs.ask(jobs, Fault::JobsOutOfRange { value: jobs })?;
+    Limit::Crews.ask(crews, Fault::CrewsOutOfRange { value: crews })?;
+    Limit::Layover.ask(
+        draft.layover,
+        Fault::LayoverOutOfRange {
+            value: draft.layover,
+        },
+    )?;
+    Ok(SizedDraft { parts: *draft })
 }
 
-// Questions 6 and 7 of each job.
-fn ask_jobs(draft: &Draft) -> Result<(), Fault>
-    requires { draft.now.jobs ≤ 64 }
-    ensures { Asks (jobs_asked draft.now.times draft.now.preds draft.now.jobs) (λ _. LowerBelow draft.now.preds draft.now.jobs) (Unit {0}) result }
-{
-    for v in 0..draft.jobs {
-        ask_job(draft.times[v as usize] as u32, draft.preds[v as usize], v)?;
+// A draft whose number of jobs is in range.
+#[derive(Clone, Copy)]
+struct SizedDraft {
+    parts: Draft,
+    ghost some: { 1 ≤ parts.jobs },
+    ghost few: { parts.jobs ≤ 64 },
+}
+
+impl SizedDraft {
+    // Questions 6 and 7 of each job.
+    #[tactic(auto, using(base::proofs::Asking::asked_none, base::proofs::Asking::asked_more, std::proofs::lemmas::Grind::get_or_default_zero))]
+    fn ask_jobs(&self) -> Result<(), Fault>
+        ensures { Asks (jobs_asked self.now.parts.times self.now.parts.preds self.now.parts.jobs) (λ _. LowerBelow self.now.parts.preds self.now.parts.jobs) (Unit {0}) result }
+    {
+        // A loop, for its `?`: `(0..n).try_for_each(|v| ask_job(..))` says the same in as many words.
+        for v in 0..self.parts.jobs {
+            ask_job(
+                self.parts.times[usize::from(v)],
+                self.parts.preds[usize::from(v)],
+                v,
+            )?;
+        }
+        Ok(())
     }
-    Ok(())
+
+    // Question 8 of each job but the last.
+    #[tactic(auto, using(crate::proofs::Asked::all_succs, crate::proofs::Asked::no_succ))]
+    fn ask_succs(&self) -> Result<(), Fault>
+        ensures { Asks (succs_asked (precedes self.now.parts.preds) self.now.parts.jobs) (λ _. Unit {0}) (Unit {0}) result }
+    {
+        match self.without_succ().lowest() {
+            Some(job) => Err(Fault::NoSuccessor { job }),
+            None => Ok(()),
+        }
+    }
+
+    // The jobs, but for the last, that have no successor.
+    fn without_succ(&self) -> JobSet
+        ensures { (u : ℕ) → has result u ≡ (nat_lt u (self.now.parts.jobs - 1) && not (has_succ (precedes self.now.parts.preds) self.now.parts.jobs u)) }
+    {
+        JobSet::below(self.parts.jobs - 1).difference(self.with_succ())
+    }
+
+    // The jobs that have a successor.
+    fn with_succ(&self) -> JobSet
+        ensures { (u : ℕ) → has result u ≡ has_succ (precedes self.now.parts.preds) self.now.parts.jobs u }
+    {
+        self.parts
+            .preds
+            .iter()
+            .take(usize::from(self.parts.jobs))
+            .fold(JobSet::empty(), |all, preds| all.union(*preds))
+    }
+
+    // The graph that has these parts, about which all questions hold.
+    #[tactic(auto, using(crate::proofs::Keeping::lawful))]
+    fn build(self) -> Graph
+        requires all_hold { first_no (making self.parts) ≡ None }
+        requires lower { LowerBelow self.parts.preds self.parts.jobs }
+        ensures { Made self.parts result }
+    {
+        whole(&self.cleared())
+    }
+
+    // The draft with nothing from `jobs` up.
+    fn cleared(self) -> Draft
+        ensures { Cleared self.parts result }
+    {
+        // By `as`: behind `usize::from` the length is the result of a call, and the proof stays open.
+        let jobs = self.parts.jobs as usize;
+        let mut parts = self.parts;
+        let times = &mut parts.times[..];
+        times[jobs..].fill(0);
+        let preds = &mut parts.preds[..];
+        preds[jobs..].fill(JobSet::empty());
+        parts
+    }
 }
 
 // Questions 6 and 7 of job `v`, which has this longest time and these predecessors.
-fn ask_job(time: u32, preds: JobSet, v: u8) -> Result<(), Fault>
+#[tactic(auto, using(base::proofs::Asking::refused), unfolding(crate::specs::Making::job_asked, base::specs::Questions::first_no))]
+fn ask_job(time: u16, preds: JobSet, v: u8) -> Result<(), Fault>
     requires { v < 64 }
-    ensures { Asks (job_asked time preds.bits v) (λ _. AllBelow preds.bits v) (Unit {0}) result }
+    ensures { Asks (job_asked time preds v) (λ _. AllBelow preds v) (Unit {0}) result }
 {
-    if !allows_time(time) {
-        return Err(Fault::TimeOutOfRange { job: v });
-    }
+    Limit::Time.ask(u32::from(time), Fault::TimeOutOfRange { job: v })?;
     if !are_lawful(preds, v) {
         return Err(Fault::NoPredecessor { job: v });
     }
@@ -103,72 +167,13 @@ fn ask_job(time: u32, preds: JobSet, v: u8) -> Result<(), Fault>
 }
 
 // Whether these may be the predecessors of job `v`: lower numbers, and at least one unless `v` is 0.
+#[tactic(auto, using(crate::proofs::Asked::in_below, crate::proofs::Asked::of_first, crate::proofs::Asked::of_other))]
 fn are_lawful(preds: JobSet, v: u8) -> bool
     requires { v < 64 }
-    ensures value { result ≡ preds_lawful preds.bits v }
-    ensures below { result ≡ true → AllBelow preds.bits v }
+    ensures value { result ≡ preds_lawful preds v }
+    ensures below { result ≡ true → AllBelow preds v }
 {
     preds.is_subset(JobSet::below(v)) && (v == 0 || !preds.is_empty())
-}
-
-// Question 8 of each job but the last.
-fn ask_succs(draft: &Draft) -> Result<(), Fault>
-    requires { (1 ≤ draft.now.jobs) × (draft.now.jobs ≤ 64) }
-    ensures { Asks (succs_asked (precedes draft.now.preds) draft.now.jobs) (λ _. Unit {0}) (Unit {0}) result }
-{
-    match without_succ(draft).lowest() {
-        Some(job) => Err(Fault::NoSuccessor { job }),
-        None => Ok(()),
-    }
-}
-
-// The jobs, but for the last, that have no successor.
-fn without_succ(draft: &Draft) -> JobSet
-    requires { (1 ≤ draft.now.jobs) × (draft.now.jobs ≤ 64) }
-    ensures { (u : ℕ) → has result.bits u ≡ (nat_lt u (draft.now.jobs - 1) && not (has_succ (precedes draft.now.preds) draft.now.jobs u)) }
-{
-    JobSet::below(draft.jobs - 1).difference(with_succ(draft))
-}
-
-// The jobs that have a successor.
-fn with_succ(draft: &Draft) -> JobSet
-    requires { draft.now.jobs ≤ 64 }
-    ensures { (u : ℕ) → has result.bits u ≡ has_succ (precedes draft.now.preds) draft.now.jobs u }
-{
-    let mut all = JobSet::empty();
-    for v in 0..draft.jobs {
-        all = all.union(draft.preds[v as usize]);
-    }
-    all
-}
-
-// The graph that has the parts of the draft, about which all questions hold.
-fn build(draft: &Draft) -> Graph
-    requires all_hold { first_no (making draft.now) ≡ None }
-    requires lower { LowerBelow draft.now.preds draft.now.jobs }
-    ensures { Made draft.now result }
-{
-    whole(&cleared(draft))
-}
-
-// The draft with nothing from `jobs` up.
-fn cleared(draft: &Draft) -> Draft
-    requires { draft.now.jobs ≤ 64 }
-    ensures { Cleared draft.now result }
-{
-    let mut times = [0; 64];
-    let mut preds = [no_jobs(); 64];
-    for v in 0..draft.jobs {
-        times[v as usize] = draft.times[v as usize];
-        preds[v as usize] = draft.preds[v as usize];
-    }
-    Draft {
-        jobs: draft.jobs,
-        crews: draft.crews,
-        layover: draft.layover,
-        times,
-        preds,
-    }
 }
 
 // The graph that has just these parts, which keep the rules.

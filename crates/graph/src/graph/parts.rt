@@ -5,7 +5,6 @@ ghost use Rattle.graph.specs.Rules.{precedes, Unpreceded};
 ghost use Rattle.base.specs.JobSets.{has};
 
 use super::Graph;
-use super::make::no_jobs;
 use base::job_set::JobSet;
 
 impl Graph {
@@ -39,7 +38,7 @@ impl Graph {
         ensures range { result ≤ 1440 }
     {
         if v < self.jobs {
-            self.times[v as usize]
+            self.times[usize::from(v)]
         } else {
             0
         }
@@ -47,35 +46,28 @@ impl Graph {
 
     /// The predecessors of job `v`, and the empty set where there is no such job.
     pub fn preds(&self, v: u8) -> JobSet
-        ensures { result.bits ≡ preds_of self.now v }
+        ensures { result ≡ preds_of self.now v }
     {
         if v < self.jobs {
-            self.preds[v as usize]
+            self.preds[usize::from(v)]
         } else {
-            no_jobs()
+            JobSet::empty()
         }
     }
 
     /// The successors of job `v`: the jobs of which it is a predecessor.
     pub fn succs(&self, v: u8) -> JobSet
-        ensures { (w : ℕ) → has result.bits w ≡ is_pred self.now v w }
+        ensures { (w : ℕ) → has result w ≡ is_pred self.now v w }
     {
-        successors(&self.preds, self.jobs, v)
+        self.preceded_by(v)
     }
-}
 
-// The jobs among so many that have `v` among their predecessors. From `jobs` up no number has any.
-fn successors(preds: &[JobSet], jobs: u8, v: u8) -> JobSet
-    requires few { jobs ≤ 64 }
-    requires long { length preds.now ≡ 64 }
-    requires rest { Unpreceded jobs preds.now }
-    ensures { (w : ℕ) → has result.bits w ≡ precedes preds.now v w }
-{
-    let mut found = JobSet::empty();
-    for w in 0..jobs {
-        if preds[w as usize].contains(v) {
-            found.insert(w);
-        }
+    // The jobs that have `v` among their predecessors.
+    fn preceded_by(&self, v: u8) -> JobSet
+        ensures { (w : ℕ) → has result w ≡ is_pred self.now v w }
+    {
+        (0..self.jobs)
+            .filter(|&w| self.preds(w).contains(v))
+            .fold(JobSet::empty(), JobSet::with)
     }
-    found
 }

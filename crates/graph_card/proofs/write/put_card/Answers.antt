@@ -2,27 +2,8 @@
 use Rattle.std.proofs.Common.{◌++◌, drop, ap, ◌∙◌, arith}
 use Rattle.bits.specs.Fields.{bits_of}
 use Rattle.graph_card.specs.Cards.{card}
-use Rattle.graph_card.proofs.Putting.{both_parts, whole_card, length-card, start_range}
+use Rattle.graph_card.proofs.Putting.{both_parts, whole_card}
 use Rattle.graph_card.proofs.write.put_card.Goals as goal
-
-pub put_head-requires : goal.put_head-requires
-put_head-requires c =
-    let g = c.args.graph.now in
-    let range = start_range g.jobs g.few_jobs in
-    let low = range.0 in
-    let long = length-card g in
-    let room = c.requires in
-    let same = c.clear.auto.target in
-    omega arith
-
-pub put_jobs-requires : goal.put_jobs-requires
-put_jobs-requires c =
-    let g = c.args.graph.now in
-    let long = length-card g in
-    let room = c.requires in
-    let same = c.clear.auto.target in
-    let again = c.put_head.auto.target in
-    omega arith
 
 pub returns : goal.returns
 returns c =

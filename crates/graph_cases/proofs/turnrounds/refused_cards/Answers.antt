@@ -4,11 +4,12 @@ use Rattle.base.specs.JobSets.{has, members_below}
 use Rattle.base.specs.Questions.{first_no, asked_below}
 use Rattle.bits.specs.Bytes.{filled, packed, bytes_of}
 use Rattle.bits.specs.Fields.{field, bits_of, number, value_at}
+use Rattle.card.specs.Heading.{heading, head}
 use Rattle.graph.specs.Rules.{any_below}
 use Rattle.graph.specs.Making.{sizes_asked, making}
 use Rattle.graph.specs.Making.{job_asked as job_made}
-use Rattle.graph_card.specs.Asking.{heading, job_asked, filling, asked_of}
-use Rattle.graph_card.specs.Layout.{head, marks, rows, start, fields}
+use Rattle.graph_card.specs.Asking.{job_asked, filling, asked_of}
+use Rattle.graph_card.specs.Layout.{marks, rows, start, fields}
 use Rattle.graph_cases.proofs.turnrounds.refused_cards.Goals as goal
 
 pub returns : goal.returns

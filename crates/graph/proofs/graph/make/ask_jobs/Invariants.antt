@@ -1,8 +1,0 @@
--- The questions about the jobs so far all hold.
-use Rattle.std.proofs.Common.{◌≡◌, None}
-use Rattle.base.specs.Questions.{first_no}
-use Rattle.graph.specs.Making.{jobs_asked, LowerBelow}
-use Rattle.graph.proofs.graph.make.ask_jobs.Given as goal
-
-abbrev pub invariant-loop-v : goal.invariant-loop-v
-invariant-loop-v l = (first_no (jobs_asked l.draft.times l.draft.preds l.v) ≡ None) × LowerBelow l.draft.preds l.v
