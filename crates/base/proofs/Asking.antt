@@ -38,7 +38,11 @@ one_failed (x ∷ xs) ys s e = grind (arith, nat_tests, one_failed xs ys s)
 pub refused : {T : Type 0} (xs : List Question) (done : T → Type 0) (kept : Type 0) (r : Result T Fault) (f : Fault) → IsErr r × IsErrAnd r (λ e. e ≡ f) → Refused xs f kept → Asks xs done kept r
 refused xs done kept r f e t = let p = err_from_is_err_and r e.1 in rw (p.1, p.2) t
 
--- the same of a call that refuses
+-- the same of a call that refuses: the first questions hold, and one of the others is answered no
+pub then_refused : (xs ys : List Question) (f : Fault) → first_no xs ≡ None → Refused ys f (Unit {0}) → Refused (xs ++ ys) f (Unit {0})
+then_refused xs ys f e r = record { fails = all_passed xs ys e ∙ r.fails; keeps = r.keeps }
+
+-- or one of the first is
 pub stopped : (xs ys : List Question) (f : Fault) (kept : Type 0) → Refused xs f kept → Refused (xs ++ ys) f kept
 stopped xs ys f kept r = record { fails = one_failed xs ys (said f) r.fails; keeps = r.keeps }
 

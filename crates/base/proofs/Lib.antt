@@ -3,3 +3,4 @@ pub mod Asking
 pub mod Digits
 pub mod Lists
 pub mod Members
+pub mod MembersRoad

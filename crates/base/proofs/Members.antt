@@ -1,28 +1,37 @@
 -- Laws of `members_below`: which numbers it lists, and how many.
-use Rattle.std.proofs.Common.{◌≡◌, ℕ, zero, suc, ◌+◌, ◌*◌, ◌%◌, ◌^◌, ◌<◌, ◌≤◌, Bool, true, false, cond, not, ◌&&◌, ◌||◌, eqb, ◌⊎◌, [], ◌∷◌, ◌++◌, length, get_or, sym, refl, ap, ◌∙◌, inl, inr, mod-eq_of_lt, one-add, ◌-◌, ◌≢◌, Decides, w64, arith}
+use Rattle.std.proofs.Common.{◌≡◌, ℕ, zero, suc, ◌+◌, ◌*◌, ◌%◌, ◌^◌, ◌<◌, ◌≤◌, Bool, true, false, cond, not, ◌&&◌, ◌||◌, ◌==◌, eqb, ◌⊎◌, [], ◌∷◌, ◌++◌, length, get_or, sym, refl, ap, ◌∙◌, inl, inr, mod-eq_of_lt, one-add, ◌-◌, ◌≢◌, Decides, w64, arith}
 use lib.Arith.{lt-one}
 use lib.Bits.{bit_and, bit_or}
 use lib.Count.{ones, ones_cat, ones-ones, count_trailing_zeros}
+use Rattle.std.proofs.Math.Bool.{and-true}
 use Rattle.std.proofs.lemmas.Nat.{mod-pow-add, mod_below, pow_pos, zero_from_ones}
 use Rattle.std.proofs.lemmas.Nat.Bits.{same_from_bits, same_from_bits_below, bit_at-trailing_zeros}
 use Rattle.std.proofs.lemmas.List.{length-append, get_or_append_left, get_or_push}
 use Rattle.std.proofs.lemmas.Bool.{cases_lt, both_ways, eq-eqb, eqb-true, ne_eqb}
 use Rattle.std.proofs.lemmas.Bool.Decides.{nat_tests}
+use Rattle.base.specs.declared.job_set.JobSet.{JobSet}
 use Rattle.base.specs.JobSets.{has, members_below, members, size, Empty, Lowest}
 use Rattle.base.proofs.Digits.{digit, has-zero, has-pow, has-or, has-shl, has_cleared}
-
-and_true : (d : Bool) → (d && not false) ≡ d
-and_true true = refl
-and_true false = refl
 
 -- ---- the number is known from its members
 
 pub same_members : (a b : ℕ) → a < 2 ^ 64 → b < 2 ^ 64 → ((u : ℕ) → u < 64 → has a u ≡ has b u) → a ≡ b
 same_members a b p q h = same_from_bits_below 64 a b p q (λ u l. digit a u ∙ rw (h u l) (sym (digit b u)))
 
+-- a set is kept as its word
+abbrev set_of : ℕ → JobSet
+set_of n = record { bits = n }
+
 -- the same with no bound
 pub same_set : (a b : ℕ) → ((u : ℕ) → has a u ≡ has b u) → a ≡ b
 same_set a b h = same_from_bits a b (λ u. digit a u ∙ rw (h u) (sym (digit b u)))
+
+-- and of sets
+pub same_sets : (a b : JobSet) → ((u : ℕ) → has a.bits u ≡ has b.bits u) → a ≡ b
+same_sets a b h = ap set_of (same_set a.bits b.bits h)
+
+pub set_known : (a b : JobSet) → Decides (a.bits == b.bits) (a ≡ b)
+set_known a b = ((λ e. ap set_of (eqb-true a.bits b.bits e)), (λ e. eq-eqb a.bits b.bits (ap (λ (s : JobSet). s.bits) e)))
 
 pub bare_is_zero : (s : ℕ) → s < 2 ^ 64 → Empty s → s ≡ 0
 bare_is_zero s p h = same_members s 0 p (omega arith) (λ u l. h u ∙ sym (has-zero u))
@@ -55,7 +64,7 @@ members_lowest (suc n) v s t l m b h = elim (cases_lt v n) [ inl g ↦ later g (
   where
     later : v < n → members_below s n ≡ v ∷ members_below t n → members_below s (suc n) ≡ v ∷ members_below t (suc n)
     later g i =
-        let e : has t n ≡ has s n = h n ∙ rw (ne_eqb n v (λ q. omega arith)) (and_true (has s n)) in
+        let e : has t n ≡ has s n = h n ∙ rw (ne_eqb n v (λ q. omega arith)) (and-true (has s n)) in
         rw (members_more s n (has s n) refl, members_more t n (has s n) e, i)
 
     here : n ≡ v → members_below s (suc n) ≡ v ∷ members_below t (suc n)

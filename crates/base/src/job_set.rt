@@ -6,34 +6,26 @@ ghost use Rattle.std.specs.Iterator.{at_most};
 use crate::word::{self, Digit};
 use std::marker::Model;
 
+// Clauses name its word, and there is no `impl Model`: with one, `?` on a graph is not proved in a function that names no set.
 /// A set of job numbers, 0 to 63. Numbers above 63 are members of nothing and change nothing.
 #[derive(Clone, Copy, PartialEq, Eq, Debug)]
 pub struct JobSet {
     bits: u64,
 }
 
-// Clauses see a set as the number of its word.
-impl Model for JobSet {
-    ghost Value = { ℕ };
-
-    ghost view = { λ s. s.bits };
-
-    ghost inverse = { λ n. record { bits = n } };
-}
-
 impl JobSet {
     /// The set with no member.
     #[tactic(auto, using(crate::proofs::Digits::digits))]
     pub fn empty() -> JobSet
-        ensures none { Empty result }
-        ensures value { result ≡ 0 }
+        ensures none { Empty result.bits }
+        ensures value { result.bits ≡ 0 }
     {
         JobSet { bits: 0 }
     }
 
     /// The set of every number below `n` and below 64.
     pub fn below(n: u8) -> JobSet
-        ensures { (u : ℕ) → has result u ≡ (nat_lt u n && nat_lt u 64) }
+        ensures { (u : ℕ) → has result.bits u ≡ (nat_lt u n && nat_lt u 64) }
     {
         JobSet {
             bits: word::ones(n.min(64)),
@@ -43,7 +35,7 @@ impl JobSet {
     /// Whether `job` is a member.
     #[tactic(auto, using(crate::proofs::Digits::digits))]
     pub fn contains(self, job: u8) -> bool
-        ensures value { result ≡ has self job }
+        ensures value { result ≡ has self.bits job }
         ensures within { result ≡ true → job ≤ 63 }
     {
         job <= 63 && Digit { at: job }.is_one(self.bits)
@@ -51,9 +43,9 @@ impl JobSet {
 
     /// Adds `job`, and answers whether it was new.
     pub fn insert(&mut self, job: u8) -> bool
-        ensures fresh { result ≡ (nat_lt job 64 && not (has self.old job)) }
-        ensures members { (u : ℕ) → has self.new u ≡ (has self.old u || (u == job && nat_lt u 64)) }
-        ensures grows { size self.new ≡ size self.old + (if result then 1 else 0) }
+        ensures fresh { result ≡ (nat_lt job 64 && not (has self.old.bits job)) }
+        ensures members { (u : ℕ) → has self.new.bits u ≡ (has self.old.bits u || (u == job && nat_lt u 64)) }
+        ensures grows { size self.new.bits ≡ size self.old.bits + (if result then 1 else 0) }
     {
         if job > 63 || self.contains(job) {
             return false;
@@ -64,7 +56,7 @@ impl JobSet {
 
     /// The members and `job`.
     pub fn with(self, job: u8) -> JobSet
-        ensures { (u : ℕ) → has result u ≡ (has self u || (u == job && nat_lt u 64)) }
+        ensures { (u : ℕ) → has result.bits u ≡ (has self.bits u || (u == job && nat_lt u 64)) }
     {
         let mut set = self;
         set.insert(job);
@@ -73,9 +65,9 @@ impl JobSet {
 
     /// Takes `job` out, and answers whether it was there.
     pub fn remove(&mut self, job: u8) -> bool
-        ensures there { result ≡ has self.old job }
-        ensures members { (u : ℕ) → has self.new u ≡ (has self.old u && not (u == job)) }
-        ensures shrinks { size self.old ≡ size self.new + (if result then 1 else 0) }
+        ensures there { result ≡ has self.old.bits job }
+        ensures members { (u : ℕ) → has self.new.bits u ≡ (has self.old.bits u && not (u == job)) }
+        ensures shrinks { size self.old.bits ≡ size self.new.bits + (if result then 1 else 0) }
     {
         if !self.contains(job) {
             return false;
@@ -86,8 +78,8 @@ impl JobSet {
 
     /// The members of either set.
     pub fn union(self, other: JobSet) -> JobSet
-        ensures members { (u : ℕ) → has result u ≡ (has self u || has other u) }
-        ensures adds { Disjoint self other → size result ≡ size self + size other }
+        ensures members { (u : ℕ) → has result.bits u ≡ (has self.bits u || has other.bits u) }
+        ensures adds { Disjoint self.bits other.bits → size result.bits ≡ size self.bits + size other.bits }
     {
         JobSet {
             bits: word::or(self.bits, other.bits),
@@ -96,7 +88,7 @@ impl JobSet {
 
     /// The members of both sets.
     pub fn intersection(self, other: JobSet) -> JobSet
-        ensures { (u : ℕ) → has result u ≡ (has self u && has other u) }
+        ensures { (u : ℕ) → has result.bits u ≡ (has self.bits u && has other.bits u) }
     {
         JobSet {
             bits: word::and(self.bits, other.bits),
@@ -105,7 +97,7 @@ impl JobSet {
 
     /// The members of this set that are not members of `other`.
     pub fn difference(self, other: JobSet) -> JobSet
-        ensures { (u : ℕ) → has result u ≡ (has self u && not (has other u)) }
+        ensures { (u : ℕ) → has result.bits u ≡ (has self.bits u && not (has other.bits u)) }
     {
         JobSet {
             bits: word::and_not(self.bits, other.bits),
@@ -114,32 +106,31 @@ impl JobSet {
 
     /// Whether there is no member.
     pub fn is_empty(self) -> bool
-        ensures counted { result ≡ (size self == 0) }
-        ensures bare { Decides result (Empty self) }
+        ensures counted { result ≡ (size self.bits == 0) }
+        ensures bare { Decides result (Empty self.bits) }
     {
         self.len() == 0
     }
 
     /// Whether every member is a member of `other`.
     pub fn is_subset(self, other: JobSet) -> bool
-        ensures part { Decides result (Subset self other) }
-        ensures smaller { result ≡ true → size self ≤ size other }
-        ensures within { (u : ℕ) → has self u ≡ true → u ≤ 63 }
+        ensures part { Decides result (Subset self.bits other.bits) }
+        ensures smaller { result ≡ true → size self.bits ≤ size other.bits }
     {
         word::is_part(self.bits, other.bits)
     }
 
     /// How many members there are.
     pub fn len(self) -> u8
-        ensures value { result ≡ size self }
-        ensures none { Decides (result == 0) (Empty self) }
+        ensures value { result ≡ size self.bits }
+        ensures none { Decides (result == 0) (Empty self.bits) }
     {
         word::count(self.bits)
     }
 
     /// The lowest member, if there is one.
     pub fn lowest(self) -> Option<u8>
-        ensures { MatchOption result (Empty self) (Lowest self) }
+        ensures { MatchOption result (Empty self.bits) (Lowest self.bits) }
     {
         if self.is_empty() {
             return None;
@@ -150,8 +141,8 @@ impl JobSet {
     /// Takes the lowest member out, if there is one, and answers it.
     #[tactic(auto, using(crate::proofs::Members::none_listed))]
     pub fn take_lowest(&mut self) -> Option<u8>
-        ensures first { TakesLowest self.old result self.new }
-        ensures others { MatchOption result (Empty self.old) (λ v. (u : ℕ) → has self.new u ≡ (has self.old u && not (u == v))) }
+        ensures first { TakesLowest self.old.bits result self.new.bits }
+        ensures others { MatchOption result (Empty self.old.bits) (λ v. (u : ℕ) → has self.new.bits u ≡ (has self.old.bits u && not (u == v))) }
     {
         let job = self.lowest()?;
         self.bits = Digit { at: job }.clear(self.bits);
@@ -160,7 +151,7 @@ impl JobSet {
 
     /// The members in ascending sequence.
     pub fn members(self) -> Members
-        ensures { result ≡ members self }
+        ensures { result ≡ members self.bits }
     {
         Members { left: self }
     }
@@ -168,7 +159,7 @@ impl JobSet {
 
 /// The set of these numbers, of those among them that are below 64.
 impl<const N: usize> From<[u8; N]> for JobSet {
-    ghost from_gives = { IsSetOf };
+    ghost from_gives = { λ jobs s. IsSetOf jobs s.bits };
 
     fn from(jobs: [u8; N]) -> JobSet {
         let mut set = JobSet::empty();
@@ -189,7 +180,7 @@ pub struct Members {
 impl Model for Members {
     ghost Value = { List ℕ };
 
-    ghost view = { λ it. members it.left };
+    ghost view = { λ it. members it.left.bits };
 }
 
 /// Gives the lowest member that is left.

@@ -9,6 +9,7 @@ use crate::fault::Fault;
 pub fn ask_room(target: &[u8], needed: u32) -> Result<(), Fault>
     ensures { Asks (space needed target.now) (λ _. needed ≤ length target.now) (Unit {0}) result }
 {
+    // By `as`: there is no `From` of `u32` for `usize`.
     if needed as usize <= target.len() {
         return Ok(());
     }

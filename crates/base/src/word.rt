@@ -78,7 +78,6 @@ pub(crate) fn and_not(a: u64, b: u64) -> u64
 pub(crate) fn is_part(a: u64, b: u64) -> bool
     ensures part { Decides result (Subset a b) }
     ensures smaller { result ≡ true → size a ≤ size b }
-    ensures within { (u : ℕ) → has a u ≡ true → u ≤ 63 }
 {
     and_not(a, b) == 0
 }

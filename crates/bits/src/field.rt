@@ -43,7 +43,7 @@ impl<const MOST: u8> Field<MOST> {
         true
     }
 
-    // The bit behind the field.
+    // The bit behind the field. Here and below by `as`: there is no `From` of `u32` for `usize`.
     fn end(self) -> usize
         ensures { result ≡ self.entry.at + self.entry.bits }
     {

@@ -19,6 +19,7 @@ pub trait Holds<const MOST: u8>: Copy {
     ghost most: { MOST ≤ 63 };
 }
 
+// Alike but for the type, and written out: the gate refuses an impl that a macro of ours wrote.
 impl Holds<8> for u8 {
     ghost number = { λ x. x };
 

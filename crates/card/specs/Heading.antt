@@ -2,14 +2,13 @@
 use Rattle.std.specs.Prelude.{◌≡◌, ℕ, ◌+◌, ◌≤◌, List, [], ◌∷◌, ◌++◌, length, take, None, Result, nat_le}
 use Rattle.base.specs.declared.fault.Fault.{Fault}
 use Rattle.base.specs.declared.fault.Layer.TheVariants.{Bits, Card}
-use Rattle.base.specs.Refusal.{says, said}
+use Rattle.base.specs.Refusal.{says}
 use Rattle.base.specs.Questions.{Question, ask, first_no, within, Asks}
 use Rattle.bits.specs.Fields.{field, value_at}
 use Rattle.bits.specs.Reading.{Got}
 use Rattle.graph.specs.Limits.{most}
 use Rattle.graph.specs.declared.limits.Limit.TheVariants.{Jobs, Crews, Layover}
 use Rattle.card.specs.declared.header.Header.{Header}
-use Rattle.card.specs.declared.read.Fields.{Fields}
 
 -- What the fields of the head hold, each from its first bit, over its width.
 abbrev pub jobs_of : List ℕ → ℕ
@@ -67,26 +66,12 @@ HeadReadsBack = (n m d : ℕ) (rest : List ℕ) → Ranges n m d → (first_no (
 abbrev pub ReadsWhole : {T : Type 0} → (T → ℕ) → List ℕ → ℕ → ℕ → Result T Fault → Type 0
 ReadsWhole number us p w r = Asks (there us p w ∷ []) (λ x. Got us p w (number x)) (Unit {0}) r
 
--- For the function that reads a field of the head. The field was read as x, which is in range.
+-- For the functions that read a field of the head. The field was read as x, which is in range.
 pub record GotInRange (us : List ℕ) (p w least most x : ℕ) : Type 0 where
   pub got : Got us p w x
   pub low : least ≤ x
   pub high : x ≤ most
 
--- A field that is to hold 1 to `most`: whatever question k its refusals answer, that question is asked.
-pub record ReadsUpTo {T : Type 0} (number : T → ℕ) (refuses : T → Fault → Type 0) (us : List ℕ) (p w most : ℕ) (r : Result T Fault) : Type 0 where
-  pub answers : (k : ℕ) → ((x : T) (f : Fault) → refuses x f → said f ≡ says k (number x) Card) → Asks (ranged us p w 1 most k) (λ x. GotInRange us p w 1 most (number x)) (Unit {0}) r
-
--- The same where question k is known.
+-- What reading a field of the head answers, where it is to hold 1 to `most`: question 1 is asked, then question k.
 abbrev pub ReadsField : List ℕ → ℕ → ℕ → ℕ → ℕ → Result ℕ Fault → Type 0
 ReadsField us p w most k r = Asks (ranged us p w 1 most k) (GotInRange us p w 1 most) (Unit {0}) r
-
--- For the function that reads the four fields: each holds its value, in range.
-pub record Ranged (us : List ℕ) (fields : Fields) : Type 0 where
-  pub version : GotInRange us 0 4 1 1 1
-  pub jobs : GotInRange us 4 7 1 64 fields.jobs
-  pub crews : GotInRange us 11 5 1 16 fields.crews
-  pub layover : GotInRange us 16 17 1 92160 fields.layover
-
-abbrev pub ReadsFields : List ℕ → Result Fields Fault → Type 0
-ReadsFields us r = Asks (heading us) (Ranged us) (Unit {0}) r

@@ -2,7 +2,8 @@
 ghost use Rattle.std.specs.Prelude.{◌≡◌, ◌≤◌};
 
 /// How many jobs and crews a card has, and its layover in minutes. Every header that exists keeps to the ranges.
-// Not a part of `Graph`, which has the same three numbers in the same ranges: a graph knows nothing of cards.
+// `Graph` has the same three numbers in the same ranges, and no struct of them: `graph.jobs` says no less than
+// `graph.header.jobs`, and a graph knows nothing of cards.
 #[derive(Clone, Copy)]
 pub struct Header {
     jobs: u8,

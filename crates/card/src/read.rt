@@ -1,8 +1,11 @@
 //! Reading fields, and the head of a card.
 ghost use Rattle.std.specs.Prelude.{◌≡◌};
-ghost use Rattle.base.specs.Questions.{within};
+ghost use Rattle.base.specs.Questions.{Asks};
 ghost use Rattle.bits.specs.Fields.{bits_of};
-ghost use Rattle.card.specs.Heading.{ReadsWhole, ReadsUpTo, ReadsField, ReadsFields, ReadsHeader, HeadReadsBack};
+ghost use Rattle.bits.specs.Reading.{Got};
+ghost use Rattle.graph.specs.Limits.{most};
+ghost use Rattle.graph.specs.declared.limits.Limit.TheVariants.{Jobs, Crews, Layover};
+ghost use Rattle.card.specs.Heading.{ranged, ReadsWhole, ReadsField, ReadsHeader, HeadReadsBack};
 
 use crate::header::Header;
 use crate::layout::{CREWS, JOBS, LAYOVER, VERSION};
@@ -12,16 +15,19 @@ use bits::number::Holds;
 use graph::limits::Limit;
 
 /// Reads what stands at the head of a card: the version, which is 1, the jobs, the crews and the layover.
-#[tactic(auto, using(crate::proofs::Heads::headed))]
+#[tactic(auto, using(crate::proofs::Heads::headed), unfolding(crate::specs::Heading::heading, base::specs::Questions::first_no))]
 pub fn read_header(bytes: &[u8]) -> Result<Header, Fault>
     ensures { ReadsHeader (bits_of bytes.now) result }
 {
-    let fields = read_fields(bytes)?;
-    Ok(Header::new(fields.jobs, fields.crews, fields.layover))
+    ask_version(bytes)?;
+    let jobs = read_jobs(bytes)?;
+    let crews = read_crews(bytes)?;
+    let layover = read_layover(bytes)?;
+    Ok(Header::new(jobs, crews, layover))
 }
 
 /// Reads a field, which is refused where the card ends before it does.
-#[tactic(auto, using(crate::proofs::Ranging::read_asks))]
+#[tactic(auto, unfolding(base::specs::Questions::first_no))]
 pub fn read_field<const MOST: u8, T: Holds<MOST>>(
     bytes: &[u8],
     field: Field<MOST>,
@@ -31,99 +37,51 @@ pub fn read_field<const MOST: u8, T: Holds<MOST>>(
     field.read(bytes).ok_or(Fault::FieldCut { bit: field.at })
 }
 
-// What the fields at the head of a card hold, behind the version.
-#[derive(Clone, Copy)]
-struct Fields {
-    jobs: u8,
-    crews: u8,
-    layover: u32,
-}
-
-// The fields at the head of a card, each of them in its range.
-#[tactic(auto, using(crate::proofs::Ranging::in_sequence))]
-fn read_fields(bytes: &[u8]) -> Result<Fields, Fault>
-    ensures { ReadsFields (bits_of bytes.now) result }
+// Asks whether the card is of version 1, the only one that is known.
+#[tactic(auto, unfolding(base::specs::Questions::first_no))]
+fn ask_version(bytes: &[u8]) -> Result<(), Fault>
+    ensures { Asks (ranged (bits_of bytes.now) 0 4 1 1 2) (λ _. Got (bits_of bytes.now) 0 4 1) (Unit {0}) result }
 {
-    read_version(bytes)?;
-    let jobs = read_jobs(bytes)?;
-    let crews = read_crews(bytes)?;
-    let layover = read_layover(bytes)?;
-    Ok(Fields {
-        jobs,
-        crews,
-        layover,
-    })
+    let version: u8 = read_field(bytes, VERSION)?;
+    if version != 1 {
+        return Err(Fault::UnknownVersion {
+            value: u32::from(version),
+        });
+    }
+    Ok(())
 }
 
-// The version, which is 1.
-#[tactic(auto, using(crate::proofs::Ranging::with_question))]
-fn read_version(bytes: &[u8]) -> Result<u8, Fault>
-    ensures { ReadsField (bits_of bytes.now) 0 4 1 2 result }
-{
-    read_up_to(bytes, VERSION, 1, |value: u8| {
-        Fault::UnknownVersion {
-            value: u32::from(value),
-        }
-    })
-}
-
-// How many jobs there are.
-#[tactic(auto, using(crate::proofs::Ranging::with_question))]
+// How many jobs there are. For jobs, crews and layover there are three functions and no generic one: that would take a closure
+// for the refusal, and a contract over all that it may refuse.
+#[tactic(auto, unfolding(base::specs::Questions::first_no))]
 fn read_jobs(bytes: &[u8]) -> Result<u8, Fault>
-    ensures { ReadsField (bits_of bytes.now) 4 7 64 3 result }
+    ensures { ReadsField (bits_of bytes.now) 4 7 (most Jobs) 3 result }
 {
-    read_up_to(bytes, JOBS, Limit::Jobs.most(), |value: u8| {
-        Fault::JobsOutOfRange {
-            value: u32::from(value),
-        }
-    })
+    let jobs = read_field(bytes, JOBS)?;
+    let value = u32::from(jobs);
+    Limit::Jobs.ask(value, Fault::JobsOutOfRange { value })?;
+    Ok(jobs)
 }
 
 // How many crews there are.
-#[tactic(auto, using(crate::proofs::Ranging::with_question))]
+#[tactic(auto, unfolding(base::specs::Questions::first_no))]
 fn read_crews(bytes: &[u8]) -> Result<u8, Fault>
-    ensures { ReadsField (bits_of bytes.now) 11 5 16 4 result }
+    ensures { ReadsField (bits_of bytes.now) 11 5 (most Crews) 4 result }
 {
-    read_up_to(bytes, CREWS, Limit::Crews.most(), |value: u8| {
-        Fault::CrewsOutOfRange {
-            value: u32::from(value),
-        }
-    })
+    let crews = read_field(bytes, CREWS)?;
+    let value = u32::from(crews);
+    Limit::Crews.ask(value, Fault::CrewsOutOfRange { value })?;
+    Ok(crews)
 }
 
 // How many minutes the train stands.
-#[tactic(auto, using(crate::proofs::Ranging::with_question))]
+#[tactic(auto, unfolding(base::specs::Questions::first_no))]
 fn read_layover(bytes: &[u8]) -> Result<u32, Fault>
-    ensures { ReadsField (bits_of bytes.now) 16 17 92160 5 result }
+    ensures { ReadsField (bits_of bytes.now) 16 17 (most Layover) 5 result }
 {
-    read_up_to(bytes, LAYOVER, Limit::Layover.most(), |value: u32| {
-        Fault::LayoverOutOfRange { value }
-    })
-}
-
-// A field that is to hold 1 to `most`, and is refused so where it holds anything else.
-#[tactic(auto, using(crate::proofs::Ranging::up_to))]
-fn read_up_to<const MOST: u8, T: Holds<MOST>, F: FnOnce(T) -> Fault + Drop>(
-    bytes: &[u8],
-    field: Field<MOST>,
-    most: u32,
-    refuse: F,
-) -> Result<T, Fault>
-    requires { F.IsAlwaysCallable refuse }
-    ensures { ReadsUpTo T.number (F.post refuse) (bits_of bytes.now) field.entry.at field.entry.bits most result }
-{
-    let value: T = read_field(bytes, field)?;
-    if !is_up_to(most, value.to_u64()) {
-        return Err(refuse(value));
-    }
+    let value = read_field(bytes, LAYOVER)?;
+    Limit::Layover.ask(value, Fault::LayoverOutOfRange { value })?;
     Ok(value)
-}
-
-// Whether a number is 1 to `most`.
-fn is_up_to(most: u32, number: u64) -> bool
-    ensures { result ≡ within 1 number most }
-{
-    (1..=u64::from(most)).contains(&number)
 }
 
 /// Carries the law of the head: what was written in range is read back, whatever follows.

@@ -1,7 +1,7 @@
 -- A draft about which all questions hold keeps the rules, and so does the smallest graph.
-use Rattle.std.proofs.Common.{◌≡◌, ℕ, ◌+◌, ◌-◌, ◌<◌, ◌≤◌, true, ◌⊎◌, get_or, set, replicate, None, sym, refl, ap, ◌∙◌, subst, inl, inr, arith}
-use Rattle.std.proofs.lemmas.List.{get_or-set_other}
-use Rattle.std.proofs.lemmas.Bool.{cases_lt, both_ways}
+use Rattle.std.proofs.Common.{◌≡◌, ℕ, ◌+◌, ◌-◌, ◌<◌, ◌≤◌, Bool, true, false, cond, ltb, ◌⊎◌, List, ◌++◌, length, take, drop, get_or, set, replicate, None, sym, refl, ap, ◌∙◌, subst, inl, inr, arith}
+use Rattle.std.proofs.lemmas.List.{get_or-set_other, length-append, length-take, length-drop, length-replicate, get_or_append_left, get_or-append_right, get_or-take, get_or-drop}
+use Rattle.std.proofs.lemmas.Bool.{cases_lt, both_ways, lt-ltb, le-ltb}
 use Rattle.std.proofs.lemmas.Bool.Decides.{nat_tests}
 use Rattle.base.specs.declared.job_set.JobSet.{JobSet}
 use Rattle.base.specs.JobSets.{has, size}
@@ -87,12 +87,41 @@ module _ (d e : Draft) (all : first_no (making d) ≡ None) (low : LowerBelow d.
         unpreceded = preds_out;
       }
 
+-- ---- the front of a list, and nothing behind it
+
+-- the set of the word 0
+pub bare_none : (s : JobSet) → s.bits ≡ 0 → s ≡ none
+bare_none s bare = ap (λ (n : ℕ). let x : JobSet = record { bits = n } in x) bare
+
+module _ {A : Type 0} (nothing x : A) (same : x ≡ nothing) (xs front : List A) (n : ℕ) (is : front ≡ take n xs) (whole : length front ≡ length (take n (replicate 64 x))) (few : n ≤ 64) where
+  long : length front ≡ n
+  long = let a = length-take n (replicate 64 x) in let b = length-replicate 64 x in omega arith
+
+  pub length_front : length (front ++ drop n (replicate 64 x)) ≡ 64
+  length_front = let a = length-append front (drop n (replicate 64 x)) in let b = length-drop n (replicate 64 x) in let c = length-replicate 64 x in let l = long in omega arith
+
+  pub read_front : (v : ℕ) → get_or (front ++ drop n (replicate 64 x)) v nothing ≡ cond (ltb v n) (get_or xs v nothing) nothing
+  read_front v = elim (cases_lt v n) [
+    | inl l ↦ rw (lt-ltb v n l) (get_or_append_left front _ nothing v (let e = long in omega arith) ∙ rw is (get_or-take n xs v nothing l))
+    | inr l ↦ rw (le-ltb v n l) (get_or-append_right front _ n v nothing long l ∙ get_or-drop n (replicate 64 x) (v - n) nothing ∙ rw same (get_or_same 64 (n + (v - n)) nothing))
+  ]
+
+-- the same of sets, as numbers
+pub preds_front : (s : JobSet) → s.bits ≡ 0 → (ps front : List JobSet) (n : ℕ) → front ≡ take n ps → length front ≡ length (take n (replicate 64 s)) → n ≤ 64
+    → (v : ℕ) → preds_at (front ++ drop n (replicate 64 s)) v ≡ cond (ltb v n) (preds_at ps v) 0
+preds_front s bare ps front n is whole few v =
+    ap (λ (x : JobSet). x.bits) (read_front none s (bare_none s bare) ps front n is whole few v) ∙ go (ltb v n)
+  where
+    go : (b : Bool) → (cond b (get_or ps v none) none).bits ≡ cond b (preds_at ps v) 0
+    go true = refl
+    go false = refl
+
 -- ---- a graph of one job
 
-no_preds : (s : JobSet) → s ≡ 0 → (v : ℕ) → preds_at (replicate 64 s) v ≡ 0
-no_preds s z v = let P : JobSet → Type 0 = λ x. preds_at (replicate 64 x) v ≡ 0 in subst P (sym z) (get_or_same 64 v none)
+no_preds : (s : JobSet) → s.bits ≡ 0 → (v : ℕ) → preds_at (replicate 64 s) v ≡ 0
+no_preds s bare v = let P : JobSet → Type 0 = λ x. preds_at (replicate 64 x) v ≡ 0 in subst P (sym (bare_none s bare)) (ap (λ (x : JobSet). x.bits) (get_or_same 64 v none))
 
-pub single_lawful : (t : ℕ) → 1 ≤ t → t ≤ 1440 → (s : JobSet) → s ≡ 0 → Lawful 1 1 1 (set (replicate 64 0) 0 t) (replicate 64 s)
+pub single_lawful : (t : ℕ) → 1 ≤ t → t ≤ 1440 → (s : JobSet) → s.bits ≡ 0 → Lawful 1 1 1 (set (replicate 64 0) 0 t) (replicate 64 s)
 single_lawful t low high s z = record {
   all_times = refl;
   all_preds = refl;

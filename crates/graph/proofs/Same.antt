@@ -1,5 +1,5 @@
 -- Graphs with the same parts are the same value.
-use Rattle.std.proofs.Common.{◌≡◌, ℕ, ◌≤◌, true, false, ◌&&◌, ◌==◌, Decides, sym, refl, ap, ◌∙◌, inl, inr, arith}
+use Rattle.std.proofs.Common.{◌≡◌, ℕ, ◌≤◌, Bool, true, false, ◌&&◌, ◌==◌, Decides, sym, refl, ap, ◌∙◌, subst, inl, inr, arith}
 use denote.Struct.Declared.{one_follows}
 use Rattle.graph.specs.contracts.graph.Graph.{the_type}
 use Rattle.std.proofs.lemmas.List.{ext_get_or}
@@ -7,10 +7,10 @@ use Rattle.std.proofs.lemmas.Bool.{cases_lt, cases_Bool, eq-eqb, and_parts, and_
 use Rattle.std.proofs.lemmas.Bool.Decides.{Decides-eqb, nat_tests}
 use Rattle.std.proofs.lemmas.Slice.Eq.{slice_eq-Decides}
 use Rattle.base.specs.JobSets.{has}
-use Rattle.base.proofs.Members.{same_set}
+use Rattle.base.proofs.Members.{same_sets, set_known}
 use Rattle.graph.specs.declared.graph.Graph.{Graph}
 use Rattle.graph.specs.Rules.{none}
-use Rattle.graph.specs.Graphs.{time_of, preds_of, is_pred}
+use Rattle.graph.specs.Graphs.{time_of, is_pred}
 use Rattle.graph.specs.Alike.{sizes_alike, times_alike, preds_alike, jobs_alike, alike}
 use Rattle.graph.specs.Laws.{SameParts, KnownByParts}
 
@@ -43,7 +43,7 @@ module _ (g h : Graph) (same : SameParts g h) where
   times_same = ext_get_or 0 g.times h.times (g.all_times ∙ sym h.all_times) (λ v l. time_same v)
 
   preds_same : g.preds ≡ h.preds
-  preds_same = ext_get_or none g.preds h.preds (g.all_preds ∙ sym h.all_preds) (λ v l. (same_set (preds_of g v) (preds_of h v) (pred_same v)))
+  preds_same = ext_get_or none g.preds h.preds (g.all_preds ∙ sym h.all_preds) (λ v l. same_sets _ _ (pred_same v))
 
   pub same_graph : g ≡ h
   same_graph = by_parts g h same.jobs same.crews same.layover times_same preds_same
@@ -58,7 +58,7 @@ module _ (g h : Graph) where
   times_same_decided = slice_eq-Decides Decides-eqb g.times h.times (times_alike g h) refl
 
   preds_same_decided : Decides (preds_alike g h) (g.preds ≡ h.preds)
-  preds_same_decided = slice_eq-Decides Decides-eqb g.preds h.preds (preds_alike g h) refl
+  preds_same_decided = slice_eq-Decides set_known g.preds h.preds (preds_alike g h) refl
 
   sizes_same : sizes_alike g h ≡ true → (g.jobs ≡ h.jobs) × (g.crews ≡ h.crews) × (g.layover ≡ h.layover)
   sizes_same e = grind (arith, nat_tests)
@@ -77,3 +77,6 @@ module _ (g h : Graph) where
         and_from (sizes_alike g h) (jobs_alike g h) sizes
         (and_from (times_alike g h) (preds_alike g h) (times_same_decided.1 (ap (λ (k : Graph). k.times) t)) (preds_same_decided.1 (ap (λ (k : Graph). k.preds) t)))),
   )
+
+pub decided : (g h : Graph) (b : Bool) → b ≡ alike g h → Decides b (g ≡ h)
+decided g h b e = subst (λ (x : Bool). Decides x (g ≡ h)) (sym e) (alike_decides g h)

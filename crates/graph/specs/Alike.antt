@@ -2,6 +2,7 @@
 use Rattle.std.specs.Prelude.{Bool, ◌==◌}
 use Rattle.std.specs.Cmp.Lexicographic.{pointwise}
 use Rattle.std.specs.Ordering.{on, eq_of_both}
+use Rattle.base.specs.declared.job_set.JobSet.{JobSet}
 use Rattle.graph.specs.declared.graph.Graph.{Graph}
 
 -- As many jobs and crews, and as long a layover.
@@ -14,7 +15,7 @@ times_alike = on (λ g. g.times) (pointwise ◌==◌)
 
 -- The same predecessors.
 abbrev pub preds_alike : Graph → Graph → Bool
-preds_alike = on (λ g. g.preds) (pointwise ◌==◌)
+preds_alike = on (λ g. g.preds) (pointwise (on (λ (s : JobSet). s.bits) ◌==◌))
 
 abbrev pub jobs_alike : Graph → Graph → Bool
 jobs_alike = eq_of_both times_alike preds_alike

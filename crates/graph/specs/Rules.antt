@@ -5,7 +5,7 @@ use Rattle.base.specs.declared.job_set.JobSet.{JobSet}
 
 -- The set with no member.
 abbrev pub none : JobSet
-none = 0
+none = record { bits = 0 }
 
 -- The longest time of job v, and 0 where there is no such job.
 abbrev pub time_at : List ℕ → ℕ → ℕ
@@ -13,7 +13,7 @@ time_at ts v = slice_index ts v
 
 -- The predecessors of job v, and none where there is no such job.
 abbrev pub preds_at : List JobSet → ℕ → ℕ
-preds_at ps v = slice_index_or ps v none
+preds_at ps v = (slice_index_or ps v none).bits
 
 -- Is u a predecessor of v?
 abbrev pub precedes : List JobSet → ℕ → ℕ → Bool

@@ -4,12 +4,13 @@ ghost use Rattle.graph.specs.Rules.{Timed, Untimed, Lower, Preceded, Succeeded, 
 
 use base::job_set::JobSet;
 
+mod equal;
 mod make;
 mod parts;
 
 /// A work graph: jobs with their longest times and predecessors, crews, and the layover. Every graph that exists keeps the
 /// rules, and from `jobs` up it holds nothing, so that graphs with the same jobs are the same value.
-#[derive(Clone, Copy, Debug, PartialEq, Eq)]
+#[derive(Clone, Copy, Debug)]
 pub struct Graph {
     jobs: u8,
     crews: u8,

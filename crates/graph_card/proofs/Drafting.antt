@@ -4,6 +4,7 @@ use Rattle.std.proofs.lemmas.List.{append_assoc, append-nil, get_or-take, get_or
 use Rattle.std.proofs.lemmas.Bool.{cases_lt, cases_Bool, lt-ltb, le-ltb}
 use Rattle.std.proofs.Math.Seq.{take-add}
 use Rattle.base.specs.declared.fault.Fault.{Fault}
+use Rattle.base.specs.declared.job_set.JobSet.{JobSet}
 use Rattle.base.specs.JobSets.{has}
 use Rattle.base.specs.declared.fault.Layer.TheVariants.{Graph as GraphLayer}
 use Rattle.base.specs.Refusal.{says, said}
@@ -45,13 +46,13 @@ module _ (us : List ℕ) where
   past_rows n e a b = rw (← e) (all_passed (heading us) _ a ∙ all_passed (asked_below (job_asked us) n) _ b)
 
 -- a head and rows that were read are a draft that was read
-pub drafted : (us : List ℕ) (h : Header) (n m d : ℕ) (ts ps : List ℕ) → n ≡ h.jobs → m ≡ h.crews → d ≡ h.layover → Taken (heading us) (Headed us h.jobs h.crews h.layover)
+pub drafted : (us : List ℕ) (h : Header) (n m d : ℕ) (ts : List ℕ) (ps : List JobSet) → n ≡ h.jobs → m ≡ h.crews → d ≡ h.layover → Taken (heading us) (Headed us h.jobs h.crews h.layover)
     → Taken (asked_below (job_asked us) n) (RowsRead us n ts ps) → Drafted us (record { jobs = n; crews = m; layover = d; times = ts; preds = ps })
-drafted us h n m d ts ps a b c head rows = record {
-  head = rw (a, b, c) head.does;
+drafted us h n m d ts ps a b c first rest = record {
+  head = rw (a, b, c) first.does;
   ranges = rw (a, b, c) record { some_jobs = h.some_jobs; few_jobs = h.few_jobs; some_crews = h.some_crews; few_crews = h.few_crews; some_layover = h.some_layover; short_layover = h.short_layover };
-  rows = rows.does;
-  left = past_rows us n (a ∙ head.does.jobs) head.all_hold rows.all_hold;
+  rows = rest.does;
+  left = past_rows us n (a ∙ first.does.jobs) first.all_hold rest.all_hold;
 }
 
 -- ---- what the card says of predecessors is what the draft holds

@@ -8,7 +8,7 @@ use Rattle.base.specs.JobSets.{has}
 use Rattle.base.proofs.Digits.{has-zero}
 use Rattle.base.specs.Refusal.{says}
 use Rattle.base.specs.Questions.{ask, first_no, Taken, Refused}
-use Rattle.base.proofs.Asking.{passed, failed, nothing_asked, stopped, all_passed}
+use Rattle.base.proofs.Asking.{passed, failed, nothing_asked, stopped, then_refused, all_passed}
 use Rattle.bits.specs.Fields.{value_at}
 use Rattle.bits.specs.Reading.{Got}
 use Rattle.card.specs.Heading.{there}
@@ -18,7 +18,6 @@ use Rattle.graph_card.specs.Layout.{MarkedBy, start}
 use Rattle.graph_card.specs.Asking.{time_asked, preds_asked, job_asked}
 use Rattle.graph_card.specs.Parts.{Lasting, PrecededBy, RowRead}
 use Rattle.graph_card.proofs.Marking.{marks_none, marks_some}
-use Rattle.card.proofs.Ranging.{then_refused}
 
 -- ---- the field of a time
 

@@ -35,18 +35,18 @@ pub so_far_none : (us : List ℕ) (s : JobSet) → SoFar us 0 (replicate 64 0) (
 so_far_none us s = record { all_times = refl; all_preds = refl; asked = asked_none (job_asked us); rows = λ w l. absurd (omega arith) }
 
 module _ (us : List ℕ) (v : ℕ) (ts : List ℕ) (ps : List JobSet) (j : Job) (few : v < 64) (so : SoFar us v ts ps)
-    (now : Taken (job_asked us v) (RowRead us v j.time j.preds)) where
+    (now : Taken (job_asked us v) (RowRead us v j.time j.preds.bits)) where
   here : RowRead us v (time_at (set ts v j.time) v) (preds_at (set ps v j.preds) v)
   here =
       let a : time_at (set ts v j.time) v ≡ j.time = get_or-set_same ts v j.time 0 (let q = so.all_times in omega arith) in
-      let b : preds_at (set ps v j.preds) v ≡ j.preds = (get_or-set_same ps v j.preds none (let q = so.all_preds in omega arith)) in
+      let b : preds_at (set ps v j.preds) v ≡ j.preds.bits = ap (λ (s : JobSet). s.bits) (get_or-set_same ps v j.preds none (let q = so.all_preds in omega arith)) in
       rw (a, b) now.does
 
   else : (w : ℕ) → w < v → RowRead us w (time_at (set ts v j.time) w) (preds_at (set ps v j.preds) w)
   else w l =
       let n : w ≡ v → ⊥ = λ e. omega arith in
       let a : time_at (set ts v j.time) w ≡ time_at ts w = get_or-set_other ts v w j.time 0 n in
-      let b : preds_at (set ps v j.preds) w ≡ preds_at ps w = (get_or-set_other ps v w j.preds none n) in
+      let b : preds_at (set ps v j.preds) w ≡ preds_at ps w = ap (λ (s : JobSet). s.bits) (get_or-set_other ps v w j.preds none n) in
       rw (a, b) (so.rows w l)
 
   pub so_far_more : SoFar us (v + 1) (set ts v j.time) (set ps v j.preds)

@@ -36,7 +36,7 @@ pub record RowRead (us : List ℕ) (v t s : ℕ) : Type 0 where
   pub preds : PrecededBy us (start v + 11) v s
 
 abbrev pub ReadsJob : List ℕ → ℕ → Result Job Fault → Type 0
-ReadsJob us v r = Asks (job_asked us v) (λ j. RowRead us v j.time j.preds) (Unit {0}) r
+ReadsJob us v r = Asks (job_asked us v) (λ j. RowRead us v j.time j.preds.bits) (Unit {0}) r
 
 -- Those of each of n jobs.
 abbrev pub RowsRead : List ℕ → ℕ → List ℕ → List JobSet → Type 0

@@ -50,7 +50,7 @@ impl Row {
 
     // These predecessors, as the number in that field: its most significant bit is for job 0.
     pub(crate) fn to_number(self, preds: JobSet) -> u64
-        ensures bits { field self.job result ≡ marks preds self.job }
+        ensures bits { field self.job result ≡ marks preds.bits self.job }
         ensures small { result < 2 ^ self.job }
     {
         (0..self.job).fold(0, |number, u| (number << 1) | u64::from(preds.contains(u)))
@@ -58,7 +58,7 @@ impl Row {
 
     // The predecessors that the number in that field says.
     pub(crate) fn to_preds(self, number: u64) -> JobSet
-        ensures { MarkedBy number self.job result }
+        ensures { MarkedBy number self.job result.bits }
     {
         (0..self.job)
             .filter(|&u| (number >> (self.job - 1 - u)) & 1 == 1)

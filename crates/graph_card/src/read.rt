@@ -22,11 +22,7 @@ use graph::limits::Limit;
 pub fn read(bytes: &[u8], into: &mut Graph) -> Result<(), Fault>
     ensures { ReadsCard bytes.now into.old into.new result }
 {
-    // A match, since the prover does not cover `?` on a graph in a function that names no set.
-    let graph = match read_unfilled(bytes) {
-        Ok(graph) => graph,
-        Err(fault) => return Err(fault),
-    };
+    let graph = read_unfilled(bytes)?;
     ask_filling(bytes, &graph)?;
     *into = graph;
     Ok(())
@@ -123,7 +119,7 @@ fn read_time(bytes: &[u8], row: Row) -> Result<u16, Fault>
 // The predecessors of a job. Job 0 has none.
 #[tactic(auto, using(crate::proofs::Ranging::of_preds))]
 fn read_preds(bytes: &[u8], row: Row) -> Result<JobSet, Fault>
-    ensures { Asks (preds_asked (bits_of bytes.now) (start row.job + 11) row.job) (λ s. PrecededBy (bits_of bytes.now) (start row.job + 11) row.job s) (Unit {0}) result }
+    ensures { Asks (preds_asked (bits_of bytes.now) (start row.job + 11) row.job) (λ s. PrecededBy (bits_of bytes.now) (start row.job + 11) row.job s.bits) (Unit {0}) result }
 {
     let Some(field) = row.preds() else {
         return Ok(JobSet::empty());

@@ -42,8 +42,8 @@ fn byte_count(graph: &Graph) -> u32
     first_bit(graph.jobs()).div_ceil(8)
 }
 
-// A graph and a target, here and below, and no struct of the two: it would be made once, to be taken apart in each line.
-// Writes the card to the front of `target`, which has to hold it.
+// Writes the card to the front of `target`, which has to hold it. Here and below a graph and a target, and no struct of the
+// two: it would be made once, to be taken apart in each line.
 #[tactic(auto, using(crate::proofs::Putting::of_card))]
 fn put_card(graph: &Graph, target: &mut [u8])
     requires { length (card graph.now) ≤ length target.old }

@@ -10,9 +10,12 @@ use Rattle.graph_card.specs.Asking.{questions}
 use Rattle.graph_card.specs.Layout.{card_of}
 
 -- The set that has just these members, each named once.
+abbrev pub word : List ℕ → ℕ
+word [] = 0
+word (v ∷ vs) = 2 ^ v + word vs
+
 abbrev pub set_of : List ℕ → JobSet
-set_of [] = 0
-set_of (v ∷ vs) = 2 ^ v + set_of vs
+set_of vs = record { bits = word vs }
 
 -- A turnround: crews, layover, and for each job its longest time and its predecessors.
 pub record Turnround : Type 0 where

@@ -2,6 +2,7 @@
 use crate::graphs::{draft_a, largest_draft};
 use base::fault::Fault;
 use bits::field::Field;
+use graph::draft::Draft;
 use graph::graph::Graph;
 use graph_card::read::read;
 use graph_card::write::{size, write};
@@ -18,6 +19,30 @@ fn refuses(rt: &impl Abort, bytes: &[u8], fault: Fault) {
     let mut place = Graph::smallest();
     assert_eq!(rt; read(bytes, &mut place), Err(fault));
     assert_eq!(rt; place, Graph::smallest());
+}
+
+// Writes the card of the graph that the draft makes, and hands a refusal of either on.
+fn write_made(draft: &Draft, target: &mut [u8]) -> Result<usize, Fault> {
+    let graph = Graph::make(draft)?;
+    write(&graph, target)
+}
+
+#[test]
+fn made_and_written(rt: HostRuntime) {
+    let mut target = [7; 15];
+    assert_eq!(rt; write_made(&draft_a(), &mut target), Ok(15));
+    assert!(rt; target == CARD_A);
+    let mut draft = draft_a();
+    draft.crews = 17;
+    assert_eq!(rt;
+        write_made(&draft, &mut target),
+        Err(Fault::CrewsOutOfRange { value: 17 })
+    );
+    assert_eq!(rt;
+        write_made(&draft_a(), &mut target[0..14]),
+        Err(Fault::TargetShort { needed: 15 })
+    );
+    assert!(rt; target == CARD_A);
 }
 
 #[test]

@@ -13,7 +13,7 @@ use text::sheet::write_first_line;
 /// Whether a card was taken, and how many bytes of text answer it.
 #[derive(Clone, Copy, PartialEq, Eq, Debug)]
 pub struct Answer {
-    // Beside the count, and no enum of two cases: the count is there and means the same in both.
+    // A flag, and no enum of two cases: the count is there in both, and means the same.
     /// Was the card taken?
     pub taken: bool,
     /// How many bytes were written to the target.

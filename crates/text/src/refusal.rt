@@ -17,7 +17,8 @@ pub fn write_refusal(fault: Fault, target: &mut [u8]) -> Result<usize, Fault>
 }
 
 // The line of a refusal that has this number and this place.
-// By pieces: `write!` says what it wrote where it answers `Ok`, and never that it does.
+// By pieces: `write!` says what it wrote where it answers `Ok`, and never that it does. And written out, as the other line is:
+// one function for both would have to require that its pieces fit.
 #[tactic(auto, unfolding(crate::specs::Lines::refusal_line))]
 fn refusal_text(number: u8, place: u32) -> Line
     ensures { result.bytes ≡ refusal_line number place }

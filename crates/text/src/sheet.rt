@@ -16,7 +16,8 @@ pub fn write_first_line(jobs: u8, crews: u8, target: &mut [u8]) -> Result<usize,
 }
 
 // The first line of the sheet of a plan with these jobs and crews.
-// By pieces: `write!` says what it wrote where it answers `Ok`, and never that it does.
+// By pieces: `write!` says what it wrote where it answers `Ok`, and never that it does. And written out, as the other line is:
+// one function for both would have to require that its pieces fit.
 #[tactic(auto, unfolding(crate::specs::Lines::first_line))]
 fn first_text(jobs: u8, crews: u8) -> Line
     ensures { result.bytes ≡ first_line jobs crews }

@@ -47,8 +47,8 @@ fn single(minutes: u16) -> Graph
 
 // Asks all questions about a draft.
 #[tactic(auto, using(base::proofs::Asking::refused, base::proofs::Asking::all_passed, base::proofs::Asking::one_failed), unfolding(crate::specs::Making::making))]
-fn ask_all(draft: &Draft) -> Result<SizedDraft, Fault>
-    ensures { Asks (making draft.now) (λ s. (s.parts ≡ draft.now) × LowerBelow draft.now.preds draft.now.jobs) (Unit {0}) result }
+fn ask_all(draft: &Draft) -> Result<SizedDraft<'_>, Fault>
+    ensures { Asks (making draft.now) (λ s. (s.parts.now ≡ draft.now) × LowerBelow draft.now.preds draft.now.jobs) (Unit {0}) result }
 {
     let sized = ask_sizes(draft)?;
     sized.ask_jobs()?;
@@ -58,8 +58,8 @@ fn ask_all(draft: &Draft) -> Result<SizedDraft, Fault>
 
 // Questions 3, 4 and 5.
 #[tactic(auto, using(base::proofs::Asking::refused), unfolding(crate::specs::Making::sizes_asked, base::specs::Questions::first_no))]
-fn ask_sizes(draft: &Draft) -> Result<SizedDraft, Fault>
-    ensures { Asks (sizes_asked draft.now.jobs draft.now.crews draft.now.layover) (λ s. s.parts ≡ draft.now) (Unit {0}) result }
+fn ask_sizes(draft: &Draft) -> Result<SizedDraft<'_>, Fault>
+    ensures { Asks (sizes_asked draft.now.jobs draft.now.crews draft.now.layover) (λ s. s.parts.now ≡ draft.now) (Unit {0}) result }
 {
     let jobs = u32::from(draft.jobs);
     let crews = u32::from(draft.crews);
@@ -71,22 +71,22 @@ fn ask_sizes(draft: &Draft) -> Result<SizedDraft, Fault>
             value: draft.layover,
         },
     )?;
-    Ok(SizedDraft { parts: *draft })
+    Ok(SizedDraft { parts: draft })
 }
 
-// A draft whose number of jobs is in range.
+// A draft whose number of jobs was found in range.
 #[derive(Clone, Copy)]
-struct SizedDraft {
-    parts: Draft,
-    ghost some: { 1 ≤ parts.jobs },
-    ghost few: { parts.jobs ≤ 64 },
+struct SizedDraft<'a> {
+    parts: &'a Draft,
+    ghost some: { 1 ≤ parts.now.jobs },
+    ghost few: { parts.now.jobs ≤ 64 },
 }
 
-impl SizedDraft {
+impl SizedDraft<'_> {
     // Questions 6 and 7 of each job.
-    #[tactic(auto, using(base::proofs::Asking::asked_none, base::proofs::Asking::asked_more, std::proofs::lemmas::Grind::get_or_default_zero))]
-    fn ask_jobs(&self) -> Result<(), Fault>
-        ensures { Asks (jobs_asked self.now.parts.times self.now.parts.preds self.now.parts.jobs) (λ _. LowerBelow self.now.parts.preds self.now.parts.jobs) (Unit {0}) result }
+    #[tactic(auto, using(base::proofs::Asking::asked_none, base::proofs::Asking::asked_more))]
+    fn ask_jobs(self) -> Result<(), Fault>
+        ensures { Asks (jobs_asked self.entry.parts.now.times self.entry.parts.now.preds self.entry.parts.now.jobs) (λ _. LowerBelow self.entry.parts.now.preds self.entry.parts.now.jobs) (Unit {0}) result }
     {
         // A loop, for its `?`: `(0..n).try_for_each(|v| ask_job(..))` says the same in as many words.
         for v in 0..self.parts.jobs {
@@ -101,8 +101,8 @@ impl SizedDraft {
 
     // Question 8 of each job but the last.
     #[tactic(auto, using(crate::proofs::Asked::all_succs, crate::proofs::Asked::no_succ))]
-    fn ask_succs(&self) -> Result<(), Fault>
-        ensures { Asks (succs_asked (precedes self.now.parts.preds) self.now.parts.jobs) (λ _. Unit {0}) (Unit {0}) result }
+    fn ask_succs(self) -> Result<(), Fault>
+        ensures { Asks (succs_asked (precedes self.entry.parts.now.preds) self.entry.parts.now.jobs) (λ _. Unit {0}) (Unit {0}) result }
     {
         match self.without_succ().lowest() {
             Some(job) => Err(Fault::NoSuccessor { job }),
@@ -111,15 +111,15 @@ impl SizedDraft {
     }
 
     // The jobs, but for the last, that have no successor.
-    fn without_succ(&self) -> JobSet
-        ensures { (u : ℕ) → has result u ≡ (nat_lt u (self.now.parts.jobs - 1) && not (has_succ (precedes self.now.parts.preds) self.now.parts.jobs u)) }
+    fn without_succ(self) -> JobSet
+        ensures { (u : ℕ) → has result.bits u ≡ (nat_lt u (self.entry.parts.now.jobs - 1) && not (has_succ (precedes self.entry.parts.now.preds) self.entry.parts.now.jobs u)) }
     {
         JobSet::below(self.parts.jobs - 1).difference(self.with_succ())
     }
 
     // The jobs that have a successor.
-    fn with_succ(&self) -> JobSet
-        ensures { (u : ℕ) → has result u ≡ has_succ (precedes self.now.parts.preds) self.now.parts.jobs u }
+    fn with_succ(self) -> JobSet
+        ensures { (u : ℕ) → has result.bits u ≡ has_succ (precedes self.entry.parts.now.preds) self.entry.parts.now.jobs u }
     {
         self.parts
             .preds
@@ -131,25 +131,27 @@ impl SizedDraft {
     // The graph that has these parts, about which all questions hold.
     #[tactic(auto, using(crate::proofs::Keeping::lawful))]
     fn build(self) -> Graph
-        requires all_hold { first_no (making self.parts) ≡ None }
-        requires lower { LowerBelow self.parts.preds self.parts.jobs }
-        ensures { Made self.parts result }
+        requires all_hold { first_no (making self.parts.now) ≡ None }
+        requires lower { LowerBelow self.parts.now.preds self.parts.now.jobs }
+        ensures { Made self.entry.parts.now result }
     {
         whole(&self.cleared())
     }
 
     // The draft with nothing from `jobs` up.
     fn cleared(self) -> Draft
-        ensures { Cleared self.parts result }
+        ensures { Cleared self.entry.parts.now result }
     {
-        // By `as`: behind `usize::from` the length is the result of a call, and the proof stays open.
-        let jobs = self.parts.jobs as usize;
-        let mut parts = self.parts;
-        let times = &mut parts.times[..];
-        times[jobs..].fill(0);
-        let preds = &mut parts.preds[..];
-        preds[jobs..].fill(JobSet::empty());
-        parts
+        let jobs = usize::from(self.parts.jobs);
+        let mut times = [0; 64];
+        times[..jobs].copy_from_slice(&self.parts.times[..jobs]);
+        let mut preds = [JobSet::empty(); 64];
+        preds[..jobs].copy_from_slice(&self.parts.preds[..jobs]);
+        Draft {
+            times,
+            preds,
+            ..*self.parts
+        }
     }
 }
 
@@ -157,7 +159,7 @@ impl SizedDraft {
 #[tactic(auto, using(base::proofs::Asking::refused), unfolding(crate::specs::Making::job_asked, base::specs::Questions::first_no))]
 fn ask_job(time: u16, preds: JobSet, v: u8) -> Result<(), Fault>
     requires { v < 64 }
-    ensures { Asks (job_asked time preds v) (λ _. AllBelow preds v) (Unit {0}) result }
+    ensures { Asks (job_asked time preds.bits v) (λ _. AllBelow preds.bits v) (Unit {0}) result }
 {
     Limit::Time.ask(u32::from(time), Fault::TimeOutOfRange { job: v })?;
     if !are_lawful(preds, v) {
@@ -170,8 +172,8 @@ fn ask_job(time: u16, preds: JobSet, v: u8) -> Result<(), Fault>
 #[tactic(auto, using(crate::proofs::Asked::in_below, crate::proofs::Asked::of_first, crate::proofs::Asked::of_other))]
 fn are_lawful(preds: JobSet, v: u8) -> bool
     requires { v < 64 }
-    ensures value { result ≡ preds_lawful preds v }
-    ensures below { result ≡ true → AllBelow preds v }
+    ensures value { result ≡ preds_lawful preds.bits v }
+    ensures below { result ≡ true → AllBelow preds.bits v }
 {
     preds.is_subset(JobSet::below(v)) && (v == 0 || !preds.is_empty())
 }

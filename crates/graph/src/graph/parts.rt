@@ -44,9 +44,10 @@ impl Graph {
         }
     }
 
+    // As `time`, and no generic one for both: it would be handed the table, and what stands for no job.
     /// The predecessors of job `v`, and the empty set where there is no such job.
     pub fn preds(&self, v: u8) -> JobSet
-        ensures { result ≡ preds_of self.now v }
+        ensures { result.bits ≡ preds_of self.now v }
     {
         if v < self.jobs {
             self.preds[usize::from(v)]
@@ -57,14 +58,14 @@ impl Graph {
 
     /// The successors of job `v`: the jobs of which it is a predecessor.
     pub fn succs(&self, v: u8) -> JobSet
-        ensures { (w : ℕ) → has result w ≡ is_pred self.now v w }
+        ensures { (w : ℕ) → has result.bits w ≡ is_pred self.now v w }
     {
         self.preceded_by(v)
     }
 
     // The jobs that have `v` among their predecessors.
     fn preceded_by(&self, v: u8) -> JobSet
-        ensures { (w : ℕ) → has result w ≡ is_pred self.now v w }
+        ensures { (w : ℕ) → has result.bits w ≡ is_pred self.now v w }
     {
         (0..self.jobs)
             .filter(|&w| self.preds(w).contains(v))

@@ -2,7 +2,7 @@
 use Rattle.std.proofs.Common.{arith}
 use Rattle.std.proofs.lemmas.Bool.{eqb-true, eq-eqb}
 use Rattle.base.specs.JobSets.{Empty, Subset}
-use Rattle.base.proofs.Digits.{has-zero, has_below}
+use Rattle.base.proofs.Digits.{has-zero}
 use Rattle.base.proofs.Members.{bare_is_zero, part_size}
 use Rattle.base.proofs.word.is_part.Goals as goal
 
@@ -15,6 +15,5 @@ returns c =
     let from : Subset a b → Empty left = λ p u. grind (arith, p u, c.and_not.ensures u) in
     record {
       part = (λ t. to (rw (eqb-true left 0 t) has-zero), λ p. eq-eqb left 0 (bare_is_zero left (omega arith) (from p)));
-      within = λ u m. let l = has_below a u (omega arith) m in omega arith;
       smaller = λ t. part_size 64 a b (λ u l. to (rw (eqb-true left 0 t) has-zero) u);
     }

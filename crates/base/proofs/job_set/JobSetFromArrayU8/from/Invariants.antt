@@ -4,4 +4,4 @@ use Rattle.base.specs.JobSets.{IsSetOf}
 use Rattle.base.proofs.job_set.JobSetFromArrayU8.from.Given as goal
 
 abbrev pub invariant-loop-job : goal.invariant-loop-job
-invariant-loop-job g l = IsSetOf (take l.job-index l.job-items) l.set
+invariant-loop-job g l = IsSetOf (take l.job-index l.job-items) l.set.bits

@@ -22,4 +22,4 @@ returns c = λ w.
     let e = fold_from_yields_List _ added c.empty.result c.fold.result c.fold.ensures.ran
     (YieldsList-from_filter _ test (YieldsList-from_range 0 g.jobs g.jobs c.filter.ensures.source (omega arith)) c.filter.ensures.closure (λ x b q k. search (rules, tests)))
     (λ a x b q k. (refl, added_is a x b (search rules))) in
-    rw (e, c.empty.ensures.value) (has-fold_filtered test g.jobs w g.few_jobs ∙ all)
+    rw e (has-fold_filtered test g.jobs w c.empty.result c.empty.ensures.value g.few_jobs ∙ all)

@@ -10,7 +10,7 @@ use Rattle.graph_card.proofs.layout.Row.to_number.Goals as goal
 
 pub returns : goal.returns
 returns c =
-    let s = c.args.preds in
+    let s = c.args.preds.bits in
     let v = c.args.self.job in
     let is =
     fold_from_yields_List _ (takes_in (marks s 64)) 0 c.fold.result c.fold.ensures.ran (YieldsList-from_range 0 v v refl (omega arith)) (λ a x b q k. search (rules, tests, mark_is)) in

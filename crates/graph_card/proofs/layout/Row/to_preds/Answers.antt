@@ -17,5 +17,5 @@ returns c =
     let e = fold_from_yields_List _ added c.empty.result c.fold.result c.fold.ensures.ran
     (YieldsList-from_filter _ test (YieldsList-from_range 0 v v c.filter.ensures.source (omega arith)) c.filter.ensures.closure (λ y b q k. search (rules, tests)))
     (λ a y b q k. (refl, added_is a y b (search rules))) in
-    let all : (u : ℕ) → has c.fold.result u ≡ (ltb u v && test u) = λ u. rw (e, c.empty.ensures.value) (has-fold_filtered test v u (omega arith)) in
-    record { bits = marks_field x v c.fold.result all; lower = λ u m. ltb-true u v (and_parts (ltb u v) (test u) (sym (all u) ∙ m)).0 }
+    let all : (u : ℕ) → has c.fold.result.bits u ≡ (ltb u v && test u) = λ u. rw e (has-fold_filtered test v u c.empty.result c.empty.ensures.value (omega arith)) in
+    record { bits = marks_field x v c.fold.result.bits all; lower = λ u m. ltb-true u v (and_parts (ltb u v) (test u) (sym (all u) ∙ m)).0 }

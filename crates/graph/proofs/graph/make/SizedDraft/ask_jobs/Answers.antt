@@ -1,10 +1,8 @@
 -- The first job that is refused decides.
 use Rattle.std.proofs.Common.{arith}
-use Rattle.std.proofs.lemmas.Grind.{get_or_default_zero}
 use Rattle.base.proofs.Asking.{asked_to}
 use Rattle.graph.proofs.graph.make.SizedDraft.ask_jobs.Goals as goal
 
 pub returns-in_err-ask_job : goal.returns-in_err-ask_job
 returns-in_err-ask_job c =
-    let k = get_or_default_zero c.args.self.now.parts.preds c.from-in-loop-v.result c.index-self-from.result (let e = c.from-in-loop-v.ensures in omega arith) in
-    asked_to _ c.args.self.now.parts.jobs c.loop-v.v _ _ _ _ c.from_residual.ensures (omega arith) c.loop-v.invariant.0 (rw (k, c.from.ensures, c.from-in-loop-v.ensures) at c.in_err-ask_job.ensures)
+    asked_to _ c.args.self.parts.now.jobs c.loop-v.v _ _ _ _ c.from_residual.ensures (omega arith) c.loop-v.invariant.0 (rw (c.from.ensures, c.from-in-loop-v.ensures) at c.in_err-ask_job.ensures)

@@ -5,4 +5,4 @@ use Rattle.graph.specs.Making.{jobs_asked, LowerBelow}
 use Rattle.graph.proofs.graph.make.SizedDraft.ask_jobs.Given as goal
 
 abbrev pub invariant-loop-v : goal.invariant-loop-v
-invariant-loop-v l = (first_no (jobs_asked l.self.parts.times l.self.parts.preds l.v) ≡ None) × LowerBelow l.self.parts.preds l.v
+invariant-loop-v l = (first_no (jobs_asked l.self.parts.now.times l.self.parts.now.preds l.v) ≡ None) × LowerBelow l.self.parts.now.preds l.v
