@@ -1,8 +1,8 @@
 #!/usr/bin/env python3
 """Counts the places of docs/DESIGN-PASS.md in the sources of a checkout: tools/places.py [FOLDER] [-v].
 
-A place is a line that a pattern finds (with -v they are printed). What the patterns find and what is no place, as an index
-into a table beside a lossless conversion, is told apart by the page, which names every place that stays.
+The lines that a pattern finds are counted, and printed with -v. Which of them are places is told by the page, which names
+every place that stays.
 """
 import collections, pathlib, re, sys
 
@@ -16,8 +16,8 @@ POINTS = [
     ('2', 'functions that differ in a type, a size or a constant, and types that do',
      r'fn (read_u\d+|read_field|read_head|read_fields|allows_\w+|ask_room|same_\w+|set|no_jobs)\(|^\s*(pub )?(enum|struct) (HeaderField|CardField|Head|Fields|Header)\b'),
     ('3', 'loops', r'^\s*(for|while|loop)\b'),
-    ('4', 'impls of comparison, numbers put into text, conversions that lose nothing by `as`',
-     r'^\s*impl (PartialEq|Eq|PartialOrd|Ord|Clone|Copy|Debug|Default)\b|fn (refusal_page|first_page|push_decimal|refusal_text|first_text)\(|\bas (u32|u64)\b(?!.*div_ceil)|value as u8|_bits as u8|\bjobs as u8|time as u16|crews as u8'),
+    ('4', 'impls of comparison, numbers put into text, conversions by `as`',
+     r'^\s*impl (PartialEq|Eq|PartialOrd|Ord|Clone|Copy|Debug|Default)\b|fn (refusal_page|first_page|push_decimal|refusal_text|first_text)\(|\bas (u8|u16|u32|u64|usize)\b'),
     ('5', 'facts required, and positions with widths as parameters',
      r'^\s*requires|at: u32, width|^    at: u32,$'),
     ('6', 'arrays of a fixed size', r'\[[^\]]*; *\d+\]'),
