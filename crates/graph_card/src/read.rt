@@ -96,7 +96,8 @@ struct Job {
     preds: JobSet,
 }
 
-// The fields of one job.
+// The fields of one job. Here and below bytes and a row, and no struct of the two: it would be made once, to be taken apart
+// in each line.
 #[tactic(auto, using(crate::proofs::Ranging::of_job))]
 fn read_job(bytes: &[u8], row: Row) -> Result<Job, Fault>
     ensures { ReadsJob (bits_of bytes.now) row.job result }
